@@ -1,0 +1,215 @@
+//! Sources and a sink in memory, whose bytes are told.
+ghost use Rattle.std.specs.Prelude.{◌≡◌, ◌<◌, ◌+◌, ◌⊎◌, ◌↔◌, [], length, Contains, Some, None, IsErr, IfOk, OnOk, OnErr, min};
+ghost use Rattle.std.specs.Io.{ReadsAtMost, WritesAtMost};
+ghost use Rattle.std.specs.Io.KnownBytes.{ReadConsumes, WriteAppends};
+ghost use Rattle.depot_io.specs.Causes.{HasCause};
+ghost use Rattle.depot_io.specs.Kept.{next_count};
+
+use crate::{Failed, Sink, Source};
+use std::alloc::Global;
+use std::marker::Model;
+
+/// There was no memory for the call.
+#[derive(Clone, Copy, Debug, PartialEq, Eq)]
+pub struct Memory;
+
+/// A source in memory that never fails.
+#[derive(Drop)]
+pub struct NeverSource {
+    bytes: Vec<u8>,
+    at: usize,
+}
+
+impl Model for NeverSource {
+    ghost use Rattle.std.specs.Prelude.{◌≤◌, List, ℕ, drop, vec_len};
+
+    ghost Value = { List ℕ };
+
+    ghost view = { λ source. drop source.at source.bytes.items };
+
+    ghost invariant = { λ source. source.at ≤ vec_len source.bytes };
+}
+
+impl NeverSource {
+    pub fn new(bytes: Vec<u8>) -> NeverSource
+        ensures { result ≡ bytes.items }
+    {
+        NeverSource { bytes, at: 0 }
+    }
+}
+
+impl Source for NeverSource {
+    ghost bytes_left = { λ source. Some source };
+
+    ghost faults = { λ _. 0 };
+
+    ghost place = { λ _. None };
+
+    fn take(&mut self, into: &mut [u8]) -> Result<usize, Failed>
+        ensures bound { ReadsAtMost result into.new }
+        ensures taken { ReadConsumes (Some self.old) (Some self.new) result into.new }
+        ensures cause { HasCause 0 0 result }
+        ensures exact { result ≡ Ok (min (length into.old) (length self.old)) }
+    {
+        let count = into.len().min(self.bytes.len() - self.at);
+        let end = self.at + count;
+        into[..count].copy_from_slice(&self.bytes[self.at..end]);
+        self.at = end;
+        Ok(count)
+    }
+}
+
+/// A source in memory, of which the listed calls fail.
+#[derive(Drop)]
+pub struct VecSource {
+    source: NeverSource,
+    fails: Vec<u64>,
+    calls: u64,
+    faults: u64,
+}
+
+impl Model for VecSource {
+    ghost use Rattle.depot_io.specs.Kept.{Giving};
+
+    ghost Value = { Giving };
+
+    ghost view = { λ inside. record {
+      left = inside.source;
+      fails = inside.fails.items;
+      calls = inside.calls;
+      faults = inside.faults;
+    } };
+}
+
+impl VecSource {
+    /// Calls of `take` are numbered from 1.
+    pub fn new(bytes: Vec<u8>, fails: Vec<u64>) -> VecSource
+        ensures { result ≡ record {
+          left = bytes.items;
+          fails = fails.items;
+          calls = 0;
+          faults = 0;
+        } }
+    {
+        VecSource {
+            source: NeverSource::new(bytes),
+            fails,
+            calls: 0,
+            faults: 0,
+        }
+    }
+}
+
+impl Source for VecSource {
+    ghost bytes_left = { λ source. Some source.left };
+
+    ghost faults = { λ source. source.faults };
+
+    ghost place = { λ _. None };
+
+    fn take(&mut self, into: &mut [u8]) -> Result<usize, Failed>
+        ensures bound { ReadsAtMost result into.new }
+        ensures taken { ReadConsumes (Some self.old.left) (Some self.new.left) result into.new }
+        ensures cause { HasCause self.old.faults self.new.faults result }
+        ensures failed { IsErr result ↔ Contains self.old.fails (next_count self.old.calls) }
+        ensures count { IfOk result (λ count.
+            count ≡ min (length into.old) (length self.old.left)) }
+        ensures calls { self.new.calls ≡ next_count self.old.calls }
+        ensures fails { self.new.fails ≡ self.old.fails }
+    {
+        self.calls = self.calls.saturating_add(1);
+        if self.fails.contains(&self.calls) {
+            self.faults = self.faults.saturating_add(1);
+            return Err(Failed);
+        }
+        self.source.take(into)
+    }
+}
+
+/// A sink in memory with bounded room, of which the listed calls fail.
+#[derive(Drop)]
+pub struct VecSink {
+    bytes: Vec<u8>,
+    room: usize,
+    fails: Vec<u64>,
+    calls: u64,
+    faults: u64,
+}
+
+impl Model for VecSink {
+    ghost use Rattle.std.specs.Prelude.{◌≤◌, ◌+◌, vec_len, vec_capacity};
+    ghost use Rattle.depot_io.specs.Kept.{Getting};
+
+    ghost Value = { Getting };
+
+    ghost view = { λ inside. record {
+      got = inside.bytes.items;
+      room = inside.room;
+      fails = inside.fails.items;
+      calls = inside.calls;
+      faults = inside.faults;
+    } };
+
+    ghost invariant = { λ inside. vec_len inside.bytes + inside.room ≤ vec_capacity inside.bytes };
+}
+
+impl VecSink {
+    /// Takes the room at once, in bytes. Calls of `put` are numbered from 1.
+    pub fn new(alloc: Global, room: usize, fails: Vec<u64>) -> Result<VecSink, Memory>
+        ensures ok { IfOk result (λ sink. sink ≡ record {
+          got = [];
+          room = room;
+          fails = fails.items;
+          calls = 0;
+          faults = 0;
+        }) }
+    {
+        let Ok(bytes) = Vec::with_capacity(alloc, room) else {
+            return Err(Memory);
+        };
+        Ok(VecSink {
+            bytes,
+            room,
+            fails,
+            calls: 0,
+            faults: 0,
+        })
+    }
+
+    /// The bytes that it got, the first one first.
+    pub fn bytes(&self) -> &[u8]
+        ensures { result.now ≡ self.now.got }
+    {
+        &self.bytes
+    }
+}
+
+impl Sink for VecSink {
+    ghost bytes_got = { λ sink. Some sink.got };
+
+    ghost faults = { λ sink. sink.faults };
+
+    fn put(&mut self, bytes: &[u8]) -> Result<usize, Failed>
+        ensures bound { WritesAtMost result bytes.now }
+        ensures some { IfOk result (λ count. 0 < length bytes.now → 0 < count) }
+        ensures put { WriteAppends (Some self.old.got) (Some self.new.got) result bytes.now }
+        ensures cause { HasCause self.old.faults self.new.faults result }
+        ensures whole { IfOk result (λ count. count ≡ length bytes.now) }
+        ensures failed { IsErr result ↔ (Contains self.old.fails (next_count self.old.calls)
+            ⊎ self.old.room < length bytes.now) }
+        ensures room { OnOk result (self.new.room + length bytes.now ≡ self.old.room) }
+        ensures kept { OnErr result (self.new.room ≡ self.old.room) }
+        ensures calls { self.new.calls ≡ next_count self.old.calls }
+        ensures fails { self.new.fails ≡ self.old.fails }
+    {
+        self.calls = self.calls.saturating_add(1);
+        if self.fails.contains(&self.calls) || self.room < bytes.len() {
+            self.faults = self.faults.saturating_add(1);
+            return Err(Failed);
+        }
+        // It stands within the capacity, so this takes no memory.
+        let _ = self.bytes.extend_from_slice(bytes);
+        self.room -= bytes.len();
+        Ok(bytes.len())
+    }
+}
