@@ -1,0 +1,48 @@
+//! Cells from bytes.
+
+ghost use Rattle.std.specs.Prelude.{◌≡◌};
+ghost use Rattle.std.specs.Str.{is_utf8};
+ghost use Rattle.depot_cell.specs.Reading.{Gives, cell_of, text_cell};
+
+use crate::cell::{Cell, CellFault, Ty};
+use crate::memory::Memory;
+use crate::number::read_int;
+use crate::short_text::Str;
+use std::alloc::Global;
+
+/// The cell of a type that bytes are. An int takes no memory, a text that of its bytes.
+pub fn read_cell(alloc: Global, ty: Ty, bytes: &[u8]) -> Result<Cell, CellFault>
+    ensures exact { Gives result (cell_of ty bytes.now) }
+{
+    match ty {
+        Ty::Int => match read_int(bytes) {
+            Some(number) => Ok(Cell::Int(number)),
+            None => Err(CellFault::BadInt),
+        },
+        Ty::Text => read_text(alloc, bytes),
+    }
+}
+
+fn read_text(alloc: Global, bytes: &[u8]) -> Result<Cell, CellFault>
+    ensures exact { Gives result (text_cell bytes.now) }
+{
+    if bytes.len() > 255 {
+        return Err(CellFault::LongText);
+    }
+    if !is_text(bytes) {
+        return Err(CellFault::NotUtf8);
+    }
+    match Str::from_bytes(alloc, bytes) {
+        Ok(text) => Ok(Cell::Text(text)),
+        Err(Memory) => Err(CellFault::Memory),
+    }
+}
+
+fn is_text(bytes: &[u8]) -> bool
+    ensures exact { result ≡ is_utf8 bytes.now }
+{
+    match str::from_utf8(bytes) {
+        Ok(_) => true,
+        Err(_) => false,
+    }
+}
