@@ -1,0 +1,17 @@
+//! What a description declares, and what a delivery brings: the types alone.
+//!
+//! A description lists feeds and tables. A table is raw, filled by the deliveries of one feed, or
+//! a view over tables that were declared before it. Feeds, tables and columns go by their
+//! numbers, from 0 in the order in which they were declared. Time is counted in ticks below
+//! [`END`].
+#![tactic(auto)]
+
+mod delivery;
+mod table;
+mod time;
+mod view;
+
+pub use delivery::{DRow, Delivery};
+pub use table::{Column, Desc, Feed, Key, Table};
+pub use time::{END, Span, Width};
+pub use view::{Agg, Cond, Fun, Kind, Pair, Src};

@@ -1,0 +1,51 @@
+//! Widths of partitions, and the spans of time that a view reads of a source.
+
+ghost use Rattle.std.specs.Prelude.{ℕ, ◌≡◌};
+ghost use Rattle.table_desc.specs.Time.{IsWidth};
+
+use std::marker::Model;
+
+/// The tick behind the last one, 2^40.
+pub const END: u64 = 1_099_511_627_776;
+
+/// How many ticks a partition covers, from 1 to [`END`].
+#[derive(Clone, Copy, Debug, PartialEq, Eq)]
+pub struct Width {
+    ticks: u64,
+}
+
+impl Model for Width {
+    ghost Value = { ℕ };
+
+    ghost view = { λ width. width.ticks };
+
+    ghost invariant = { λ width. IsWidth width.ticks };
+
+    ghost inverse = { λ ticks. record { ticks = ticks } };
+}
+
+impl Width {
+    /// A width of this many ticks.
+    pub fn new(ticks: u64) -> Width
+        requires { IsWidth ticks }
+        ensures { result ≡ ticks }
+    {
+        Width { ticks }
+    }
+
+    /// How many ticks it is.
+    pub fn ticks(&self) -> u64
+        ensures value { result ≡ self.now }
+        ensures in_range { IsWidth self.now }
+    {
+        self.ticks
+    }
+}
+
+/// What a view reads of a source, around its own partition: from `lo` ticks behind its start up to,
+/// but not including, `hi` ticks behind the start of the next.
+#[derive(Clone, Copy, Debug, PartialEq, Eq)]
+pub struct Span {
+    pub lo: i64,
+    pub hi: i64,
+}
