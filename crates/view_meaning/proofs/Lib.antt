@@ -1,0 +1,5 @@
+pub mod FilterLemmas
+pub mod PartitionLemmas
+pub mod JournalLemmas
+pub mod SetAsideLemmas
+pub mod RawLemmas

@@ -1,0 +1,12 @@
+use Rattle.std.proofs.Common.{arith}
+use Rattle.view_meaning.proofs.PartitionLemmas.{parts_met-empty, parts_met-run}
+use Rattle.view_meaning.proofs.parts.plain_parts.Goals as goal
+
+pub returns-then-from-to-clause-exact : goal.returns-then-from-to-clause-exact
+returns-then-from-to-clause-exact c = rw c.if-from-to.true (parts_met-empty c.args.width c.args.to)
+
+pub returns-clause-exact : goal.returns-clause-exact
+returns-clause-exact c =
+    rw (c.ticks.ensures.value, c.ticks-2.ensures.value)
+    (parts_met-run c.args.width c.args.from c.args.to c.ticks.ensures.in_range
+    (omega (arith, c.if-from-to.false)) c.requires.in_time)

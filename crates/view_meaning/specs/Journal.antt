@@ -1,0 +1,94 @@
+-- Journals: what was accepted, in order, and what of it fits a description.
+use Rattle.std.specs.Prelude.{ℕ, ◌<◌, ◌≤◌, ◌≡◌, ◌^◌, List, Option, Some, None, IsSomeAnd, slice_get, pos, negsuc, length, ⊤, All, filter_map}
+use Rattle.std.specs.List.{AllZip, AllAdjacentBelow}
+use Rattle.depot_cell.specs.declared.cell.Cell.{Cell}
+use Rattle.depot_cell.specs.declared.cell.Cell.TheVariants as cell
+use Rattle.depot_cell.specs.declared.cell.Ty.{Ty}
+use Rattle.depot_cell.specs.declared.cell.Ty.TheVariants as ty
+use Rattle.table_desc.specs.declared.table.Column.{Column}
+use Rattle.table_desc.specs.declared.table.Key.{Key}
+use Rattle.table_desc.specs.declared.delivery.DRow.{DRow}
+use Rattle.table_desc.specs.Deliveries.{DeliveryOf}
+use Rattle.table_desc.specs.Descriptions.{DescOf}
+use Rattle.table_desc.specs.Tables.{TableOf}
+use Rattle.table_desc.specs.KindValues.{KindOf, Raw, Filter, Group, Join}
+use Rattle.view_meaning.specs.declared.journal.Entry.{Entry}
+use Rattle.view_meaning.specs.declared.journal.Entry.TheVariants as entry
+use Rattle.view_meaning.specs.Partitions.{END, start_of}
+
+-- the delivery of a load
+abbrev pub delivery_of : Entry → Option DeliveryOf
+delivery_of (entry.Load delivery) = Some delivery
+delivery_of (entry.Install _ _) = None
+
+-- the accepted deliveries of a journal, in order
+abbrev pub accepted : List Entry → List DeliveryOf
+accepted journal = filter_map delivery_of journal
+
+-- the type of a cell
+abbrev pub ty_of : Cell → Ty
+ty_of (cell.Int _) = ty.Int
+ty_of (cell.Text _) = ty.Text
+
+-- the tick that a time cell holds: an int that is not below 0
+abbrev pub tick_of : Option Cell → Option ℕ
+tick_of None = None
+tick_of (Some (cell.Int (pos tick))) = Some tick
+tick_of (Some (cell.Int (negsuc _))) = None
+tick_of (Some (cell.Text _)) = None
+
+-- the tick of a row of a raw table
+abbrev pub row_tick : KindOf → List Cell → Option ℕ
+row_tick (Raw _ time) cells = tick_of (slice_get cells time)
+row_tick (Filter _ _ _) cells = None
+row_tick (Group _ _ _) cells = None
+row_tick (Join _ _ _) cells = None
+
+-- the table is a raw one of this feed
+abbrev pub IsRawOf : ℕ → KindOf → Type 0
+IsRawOf feed (Raw its_feed _) = its_feed ≡ feed
+IsRawOf feed (Filter _ _ _) = ⊥
+IsRawOf feed (Group _ _ _) = ⊥
+IsRawOf feed (Join _ _ _) = ⊥
+
+-- the table is a view
+abbrev pub IsView : KindOf → Type 0
+IsView (Raw _ _) = ⊥
+IsView (Filter _ _ _) = ⊤
+IsView (Group _ _ _) = ⊤
+IsView (Join _ _ _) = ⊤
+
+-- the cells are a row of this raw table of the feed
+pub record IsRowOf (feed : ℕ) (cells : List Cell) (table : TableOf) : Type 0 where
+  pub of_feed : IsRawOf feed table.kind
+  pub typed : AllZip (λ (column : Column) cell. ty_of cell ≡ column.ty) table.columns cells
+  pub in_time : IsSomeAnd (row_tick table.kind cells) (λ tick. tick < END)
+
+-- the row is one of a raw table of the feed
+abbrev pub FitsRow : DescOf → ℕ → DRow → Type 0
+FitsRow desc feed row = IsSomeAnd (slice_get desc.tables row.table) (IsRowOf feed row.cells)
+
+-- the delivery is one of a feed of the description, and its record numbers rise from 1 on
+pub record FitsDelivery (desc : DescOf) (delivery : DeliveryOf) : Type 0 where
+  pub of_feed : delivery.feed < length desc.feeds
+  pub numbered : delivery.number < 2 ^ 32
+  pub in_time : delivery.closes ≤ END
+  pub rows : All (FitsRow desc delivery.feed) delivery.rows
+  pub from_one : All (λ (row : DRow). 1 ≤ row.number) delivery.rows
+  pub rising : AllAdjacentBelow (λ (row next : DRow). row.number < next.number)
+      delivery.rows (length delivery.rows)
+
+-- the key is a partition of a view
+pub record IsPartOfView (key : Key) (table : TableOf) : Type 0 where
+  pub view : IsView table.kind
+  pub in_time : start_of table.width key.part < END
+
+-- the entry speaks of feeds, tables and partitions of the description
+abbrev pub FitsEntry : DescOf → Entry → Type 0
+FitsEntry desc (entry.Load delivery) = FitsDelivery desc delivery
+FitsEntry desc (entry.Install key _) =
+    IsSomeAnd (slice_get desc.tables key.table) (IsPartOfView key)
+
+-- so does each entry of the journal
+abbrev pub FitsJournal : DescOf → List Entry → Type 0
+FitsJournal desc journal = All (FitsEntry desc) journal

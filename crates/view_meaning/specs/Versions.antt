@@ -1,0 +1,53 @@
+-- Versions: how often the rows of a partition have changed.
+use Rattle.std.specs.Prelude.{ℕ, ◌+◌, List, [], ◌∷◌, ◌++◌, Option, Some, None, Bool, true, false, ◌&&◌, ◌==◌, if◌then◌else◌, count_by, slice_get}
+use Rattle.std.specs.List.{list_any}
+use Rattle.table_desc.specs.declared.table.Key.{Key}
+use Rattle.table_desc.specs.Deliveries.{DeliveryOf}
+use Rattle.table_desc.specs.Descriptions.{DescOf}
+use Rattle.table_desc.specs.Tables.{TableOf}
+use Rattle.table_desc.specs.KindValues.{KindOf, Raw, Filter, Group, Join}
+use Rattle.view_meaning.specs.declared.journal.Entry.{Entry}
+use Rattle.view_meaning.specs.declared.journal.Entry.TheVariants as entry
+use Rattle.view_meaning.specs.Journal.{accepted}
+use Rattle.view_meaning.specs.SetAside.{kept_rows}
+use Rattle.view_meaning.specs.RawValues.{lies_in}
+
+-- whether a delivery keeps a row in the partition, where these were accepted before it
+abbrev pub touches : DescOf → Key → List DeliveryOf → DeliveryOf → Bool
+touches desc key before delivery = list_any (lies_in desc key) (kept_rows desc before delivery)
+
+-- how many of the deliveries that were accepted one by one behind those before keep a row in the
+-- partition
+abbrev pub loads_behind : DescOf → Key → (before accepted : List DeliveryOf) → ℕ
+loads_behind desc key before [] = 0
+loads_behind desc key before (delivery ∷ later) =
+    (if touches desc key before delivery then 1 else 0)
+    + loads_behind desc key (before ++ delivery ∷ []) later
+
+-- the version of a raw partition: the number of accepted deliveries that kept a row in it
+abbrev pub raw_version : DescOf → List DeliveryOf → Key → ℕ
+raw_version desc accepted key = loads_behind desc key [] accepted
+
+-- whether an entry installs the partition
+abbrev pub installs : Key → Entry → Bool
+installs key (entry.Load _) = false
+installs key (entry.Install installed _) =
+    (installed.table == key.table) && (installed.part == key.part)
+
+-- whether a table is raw
+abbrev pub is_raw_kind : KindOf → Bool
+is_raw_kind (Raw _ _) = true
+is_raw_kind (Filter _ _ _) = false
+is_raw_kind (Group _ _ _) = false
+is_raw_kind (Join _ _ _) = false
+
+-- whether there is such a table and it is raw
+abbrev pub is_raw : Option TableOf → Bool
+is_raw None = false
+is_raw (Some table) = is_raw_kind table.kind
+
+-- the version of a partition after a journal: of a view, the number of its installs
+abbrev pub version : DescOf → List Entry → Key → ℕ
+version desc journal key =
+    if is_raw (slice_get desc.tables key.table) then raw_version desc (accepted journal) key
+    else count_by (installs key) journal

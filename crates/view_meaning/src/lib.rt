@@ -1,0 +1,19 @@
+//! What the warehouse means: partitions, journals, kept rows, values, versions, and what an answer
+//! shows.
+//!
+//! The definitions stand in `specs/`, one file a notion, over plain lists. Beside them stand the
+//! programs that compute them by going over everything that was accepted: slow, and plain enough to
+//! be read beside the definition. Faster programs above keep the same definitions.
+#![tactic(auto)]
+
+mod journal;
+mod parts;
+mod plain;
+mod request;
+#[cfg(test)]
+mod tests;
+
+pub use journal::{Entry, Loaded};
+pub use parts::{Parts, plain_parts};
+pub use plain::{plain_value, plain_version};
+pub use request::{Item, Mark, PinItem};
