@@ -1,0 +1,12 @@
+pub mod BodyLemmas
+pub mod ColumnLemmas
+pub mod CsvRecords
+pub mod DescriptionLemmas
+pub mod FlexibleRows
+pub mod KnownLemmas
+pub mod LineLemmas
+pub mod NameLemmas
+pub mod OpeningLemmas
+pub mod ReplyLemmas
+pub mod RunLemmas
+pub mod SessionLemmas

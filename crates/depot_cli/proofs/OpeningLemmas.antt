@@ -1,0 +1,146 @@
+-- How far a description was read: what its lines so far describe, and that what is left goes on
+-- to the opening of the whole input.
+use Rattle.std.proofs.Common.{◌≡◌, ℕ, suc, zero, ◌+◌, ◌≤◌, List, [], ◌∷◌, ◌++◌, length, Bool, true, false, refl, sym, ap, ◌∙◌, arith, append_assoc, subst}
+use Rattle.std.specs.Prelude.{IfSome, Option, Some, None, Ok}
+use Rattle.std.proofs.lemmas.List.Sums.{fold-append}
+use Rattle.depot_io.specs.Lines.{line_take}
+use Rattle.std.specs.Prelude.{is_some, if◌then◌else◌, ◌||◌}
+use Rattle.table_desc.specs.Descriptions.{DescOf}
+use Rattle.depot_cli.specs.Words.{words, is_skipped}
+use Rattle.depot_cli.specs.Description.{Described, described, with_line, with_declared, declared_by, nothing_described, is_go}
+use Rattle.depot_cli.specs.Reading.{NextLine, Line, next_line, Opening, opening, opening_at, opening_from, after_line}
+use Rattle.depot_cli.specs.ScriptCalls.{IsNextLine}
+use Rattle.depot_cli.proofs.KnownLemmas.{IfSome-known}
+use Rattle.depot_cli.proofs.LineLemmas.{next_line-shorter}
+
+-- an opening with these lines in front
+abbrev pub after_lines : List (List ℕ) → Opening → Opening
+after_lines lines opening = record opening { lines = lines ++ opening.lines }
+
+-- lines were read and describe this; what is left goes on to the whole opening
+pub record HasOpened (whole : Opening) (before : Described) (taken : ℕ)
+    (left : Option (List ℕ)) : Type 0 where
+  pub rest : List ℕ
+  pub lines : List (List ℕ)
+  pub turns : ℕ
+  pub is_left : left ≡ Some rest
+  pub enough : length rest ≤ turns
+  pub describes : before ≡ described lines
+  pub goes_on : after_lines lines (opening_from (suc turns) taken rest) ≡ whole
+
+-- nothing was read
+pub HasOpened-start : (bytes : List ℕ) → HasOpened (opening bytes) nothing_described 0 (Some bytes)
+HasOpened-start bytes = record {
+  rest = bytes;
+  lines = [];
+  turns = length bytes;
+  is_left = refl;
+  enough = omega arith;
+  describes = refl;
+  goes_on = refl;
+}
+
+-- one line more at the end of those read
+after_lines-push : (lines : List (List ℕ)) (line : List ℕ) (opening : Opening)
+    → after_lines lines (after_line line opening) ≡ after_lines (lines ++ line ∷ []) opening
+after_lines-push lines line opening =
+    ap (λ (all : List (List ℕ)). record opening { lines = all })
+    (sym (append_assoc lines (line ∷ []) opening.lines))
+
+-- what an opening is from here on, at its next line
+opening_next : (whole : Opening) (lines : List (List ℕ)) (turns taken : ℕ) (rest : List ℕ)
+    (next : NextLine)
+    → next_line taken rest ≡ next
+    → after_lines lines (opening_from (suc turns) taken rest) ≡ whole
+    → after_lines lines (opening_at (opening_from turns (taken + line_take rest)) taken rest next)
+    ≡ whole
+opening_next whole lines turns taken rest next is_next goes_on =
+    ap (λ (next : NextLine). after_lines lines
+    (opening_at (opening_from turns (taken + line_take rest)) taken rest next)) (sym is_next)
+    ∙ goes_on
+
+-- the opening behind a line that does not end it
+opening_at-line : (more : List ℕ → Opening) (taken : ℕ) (bytes line rest : List ℕ)
+    → is_go (words line) ≡ false
+    → opening_at more taken bytes (Line line rest) ≡ after_line line (more rest)
+opening_at-line more taken bytes line rest goes = rw goes refl
+
+-- the line that is known to be there
+known_line : (taken place : ℕ) (line : List ℕ) (left_now left : Option (List ℕ)) (rest : List ℕ)
+    (there : Bool)
+    → left ≡ Some rest → there ≡ true
+    → IfSome left (λ bytes. IsNextLine (next_line taken bytes) place line left_now (Ok there))
+    → IsNextLine (next_line taken rest) place line left_now (Ok true)
+known_line taken place line left_now left rest there is_left is_there answer =
+    let P : Bool → Type 0 = λ there.
+    IsNextLine (next_line taken rest) place line left_now (Ok there) in
+    subst P is_there (IfSome-known left rest
+    (λ bytes. IsNextLine (next_line taken bytes) place line left_now (Ok there)) is_left answer)
+
+-- a line that does not end the description is added to it
+pub HasOpened-line : (whole : Opening) (before : Described) (taken taken_now place : ℕ)
+    (line : List ℕ) (there : Bool) (left left_now : Option (List ℕ))
+    → HasOpened whole before taken left
+    → there ≡ true
+    → IfSome left (λ bytes. IsNextLine (next_line taken bytes) place line left_now (Ok there))
+    → IfSome left (λ bytes. taken_now ≡ taken + line_take bytes)
+    → is_go (words line) ≡ false
+    → HasOpened whole (with_line before line) taken_now left_now
+HasOpened-line whole before taken taken_now place line there left left_now opened is_there answer
+    counted goes =
+    let answered = known_line taken place line left_now left opened.rest there
+    opened.is_left is_there answer in
+    let count = IfSome-known left opened.rest (λ bytes. taken_now ≡ taken + line_take bytes)
+    opened.is_left counted in
+    behind opened.turns answered.0 count opened.enough answered.1 answered.2
+    opened.describes opened.goes_on
+  where
+    behind : (turns : ℕ) (rest : List ℕ) → taken_now ≡ taken + line_take opened.rest
+        → length opened.rest ≤ turns
+        → next_line taken opened.rest ≡ Line line rest → left_now ≡ Some rest
+        → before ≡ described opened.lines
+        → after_lines opened.lines (opening_from (suc turns) taken opened.rest) ≡ whole
+        → HasOpened whole (with_line before line) taken_now left_now
+    behind zero rest count enough next is_left describes goes_on =
+        absurd (omega (arith, next_line-shorter taken opened.rest line rest next))
+    behind (suc turns) rest count enough next is_left describes goes_on = record {
+      rest = rest;
+      lines = opened.lines ++ line ∷ [];
+      turns = turns;
+      is_left = is_left;
+      enough = omega (arith, next_line-shorter taken opened.rest line rest next);
+      describes = ap (λ (before : Described). with_line before line) describes
+          ∙ sym (fold-append with_line nothing_described opened.lines (line ∷ []));
+      goes_on = ap (λ (taken : ℕ).
+          after_lines (opened.lines ++ line ∷ []) (opening_from (suc turns) taken rest)) count
+          ∙ sym (after_lines-push opened.lines line (more rest))
+          ∙ ap (λ (opening : Opening). after_lines opened.lines opening)
+          (sym (opening_at-line more taken opened.rest line rest goes))
+          ∙ opening_next whole opened.lines (suc turns) taken opened.rest (Line line rest) next
+          goes_on;
+    }
+      where
+        more : List ℕ → Opening
+        more = opening_from (suc turns) (taken + line_take opened.rest)
+
+-- nothing was read of what a source has left
+pub HasOpened-init : (left : Option (List ℕ)) (before : Described) → before ≡ nothing_described
+    → IfSome left (λ bytes. HasOpened (opening bytes) before 0 left)
+HasOpened-init None before is_nothing = tt
+HasOpened-init (Some bytes) before is_nothing =
+    subst (λ (before : Described). HasOpened (opening bytes) before 0 (Some bytes))
+    (sym is_nothing) (HasOpened-start bytes)
+
+-- a line is counted, whatever it says
+pub lines-with_line : (before : Described) (line : List ℕ)
+    → (with_line before line).lines ≡ before.lines + 1
+lines-with_line before line =
+    counted (is_some before.bad || is_skipped (words line)) (declared_by before.desc (words line))
+  where
+    counted : (passed : Bool) (declared : Option DescOf)
+        → (if passed then record before { lines = before.lines + 1 }
+        else with_declared before declared).lines
+        ≡ before.lines + 1
+    counted true declared = refl
+    counted false None = refl
+    counted false (Some desc) = refl

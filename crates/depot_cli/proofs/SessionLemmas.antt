@@ -1,0 +1,203 @@
+-- How far a session was served: what was replied, what the journal has, and that what is left
+-- goes on to the session of the whole input.
+use Rattle.std.proofs.Common.{◌≡◌, ℕ, suc, zero, ◌+◌, ◌≤◌, List, [], ◌∷◌, ◌++◌, length, Bool, true, false, refl, sym, ap, ◌∙◌, arith, append_assoc, append-nil, length-append, subst}
+use Rattle.std.specs.Prelude.{IfSome, Option, Some, None, Ok, if◌then◌else◌, ◌||◌}
+use Rattle.std.specs.Io.KnownBytes.{Appends}
+use Rattle.std.proofs.KnownBytes.{Appends-trans}
+use Rattle.std.proofs.Math.Bool.{or-false}
+use Rattle.std.proofs.lemmas.List.Folds.{list_any-append}
+use Rattle.std.proofs.lemmas.List.Sums.{fold-append}
+use Rattle.table_desc.specs.Descriptions.{DescOf}
+use Rattle.view_meaning.specs.declared.journal.Entry.{Entry}
+use Rattle.view_meaning.specs.declared.journal.Entry.TheVariants as entry
+use Rattle.depot_cli.specs.declared.work.Work.{Work}
+use Rattle.depot_cli.specs.declared.work.Work.TheVariants as work
+use Rattle.depot_cli.specs.Reading.{Session, Step, Does, after_item, session, session_at, session_from, step_of}
+use Rattle.depot_cli.specs.ScriptCalls.{IsStep}
+use Rattle.depot_cli.specs.SerialJournal.{is_repeat, journal_after, serial}
+use Rattle.depot_cli.specs.Replies.{has_refused, is_refused, replies, reply}
+use Rattle.depot_cli.proofs.KnownLemmas.{IfSome-known}
+use Rattle.depot_cli.proofs.LineLemmas.{step_of-shorter}
+
+-- the replies to items are those to the first of them and then those to the others, after the
+-- journal that the first made
+pub replies-append : (desc : DescOf) (line : ℕ) (journal : List Entry) (items others : List Work)
+    → replies desc line journal (items ++ others)
+    ≡ replies desc line journal items
+    ++ replies desc (line + length items) (serial journal items) others
+replies-append desc line journal [] others =
+    ap (λ (line : ℕ). replies desc line journal others) (omega arith)
+replies-append desc line journal (item ∷ items) others =
+    ap (λ (more : List ℕ). reply desc line journal item ++ more)
+    (replies-append desc (line + 1) (journal_after journal item) items others)
+    ∙ sym (append_assoc (reply desc line journal item) between
+    (replies desc (line + 1 + length items) (serial (journal_after journal item) items) others))
+    ∙ ap (λ (line : ℕ). (first ++ between)
+    ++ replies desc line (serial (journal_after journal item) items) others) (omega arith)
+  where
+    first : List ℕ
+    first = reply desc line journal item
+
+    between : List ℕ
+    between = replies desc (line + 1) (journal_after journal item) items
+
+-- one reply more
+pub replies-push : (desc : DescOf) (items : List Work) (work : Work)
+    → replies desc 1 [] (items ++ work ∷ [])
+    ≡ replies desc 1 [] items ++ reply desc (1 + length items) (serial [] items) work
+replies-push desc items work =
+    replies-append desc 1 [] items (work ∷ [])
+    ∙ ap (λ (last : List ℕ). replies desc 1 [] items ++ last)
+    (append-nil (reply desc (1 + length items) (serial [] items) work))
+
+-- a session with these items in front
+abbrev pub after_items : List Work → Session → Session
+after_items items session = record session { items = items ++ session.items }
+
+-- items were served: what they were replied, what the journal has of them, and whether one was
+-- refused; what is left goes on to the whole session
+pub record HasServed (desc : DescOf) (base : ℕ) (whole : Session)
+    (got_before got_now : Option (List ℕ)) (journal : List Entry) (line : ℕ) (refused : Bool)
+    (taken : ℕ) (left : Option (List ℕ)) : Type 0 where
+  pub rest : List ℕ
+  pub items : List Work
+  pub turns : ℕ
+  pub is_left : left ≡ Some rest
+  pub enough : length rest ≤ turns
+  pub goes_on : after_items items (session_from desc base (suc turns) taken rest) ≡ whole
+  pub replied : Appends got_before got_now (replies desc 1 [] items)
+  pub journaled : journal ≡ serial [] items
+  pub counted : line ≡ 1 + length items
+  pub told : refused ≡ has_refused items
+
+-- nothing was put
+Appends-none : (got : Option (List ℕ)) → Appends got got []
+Appends-none None = tt
+Appends-none (Some bytes) = sym (append-nil bytes)
+
+-- nothing was served
+pub HasServed-start : (desc : DescOf) (base : ℕ) (bytes : List ℕ) (got : Option (List ℕ))
+    → HasServed desc base (session desc base bytes) got got [] 1 false 0 (Some bytes)
+HasServed-start desc base bytes got = record {
+  rest = bytes;
+  items = [];
+  turns = length bytes;
+  is_left = refl;
+  enough = omega arith;
+  goes_on = refl;
+  replied = Appends-none got;
+  journaled = refl;
+  counted = refl;
+  told = refl;
+}
+
+-- nothing was served of what a source has left
+pub HasServed-init : (desc : DescOf) (base : ℕ) (left got : Option (List ℕ)) (journal : List Entry)
+    (taken : ℕ)
+    → journal ≡ [] → taken ≡ 0
+    → IfSome left (λ input.
+    HasServed desc base (session desc base input) got got journal 1 false taken left)
+HasServed-init desc base None got journal taken is_new is_start = tt
+HasServed-init desc base (Some input) got journal taken is_new is_start =
+    let P : List Entry → ℕ → Type 0 = λ journal taken.
+    HasServed desc base (session desc base input) got got journal 1 false taken (Some input) in
+    subst (λ (taken : ℕ). P journal taken) (sym is_start)
+    (subst (λ (journal : List Entry). P journal 0) (sym is_new)
+    (HasServed-start desc base input got))
+
+-- an item adds one entry at most
+pub length-journal_after : (journal : List Entry) (work : Work)
+    → length (journal_after journal work) ≤ length journal + 1
+length-journal_after journal work.Nothing = omega arith
+length-journal_after journal work.Refused = omega arith
+length-journal_after journal (work.Load delivery) = loaded (is_repeat journal delivery)
+  where
+    loaded : (repeat : Bool)
+        → length (if repeat then journal else journal ++ entry.Load delivery ∷ [])
+        ≤ length journal + 1
+    loaded true = omega arith
+    loaded false = omega (arith, length-append journal (entry.Load delivery ∷ []))
+length-journal_after journal (work.Query item) = omega arith
+
+-- what the session is from here on, at its next step
+session_next : (desc : DescOf) (base turns taken : ℕ) (rest : List ℕ) (items : List Work)
+    (whole : Session) (step : Step)
+    → step_of desc base taken rest ≡ step
+    → after_items items (session_from desc base (suc turns) taken rest) ≡ whole
+    → after_items items (session_at (session_from desc base turns) step) ≡ whole
+session_next desc base turns taken rest items whole step is_step goes_on =
+    ap (λ (step : Step). after_items items (session_at (session_from desc base turns) step))
+    (sym is_step)
+    ∙ goes_on
+
+-- one item more at the end of those served
+after_items-push : (items : List Work) (work : Work) (session : Session)
+    → after_items items (after_item work session) ≡ after_items (items ++ work ∷ []) session
+after_items-push items work session =
+    ap (λ (all : List Work). record session { items = all })
+    (sym (append_assoc items (work ∷ []) session.items))
+
+-- what was put and then what was put behind it
+Appends-reply : (before now next : Option (List ℕ)) (text more all : List ℕ)
+    → Appends before now text → Appends now next more → text ++ more ≡ all → Appends before next all
+Appends-reply before now next text more all first second is_all =
+    subst (λ (all : List ℕ). Appends before next all) is_all
+    (Appends-trans before now next text more first second)
+
+-- an item that was done and replied to
+pub HasServed-item : (desc : DescOf) (base : ℕ) (whole : Session)
+    (got_before got_now got_next : Option (List ℕ)) (journal journal_next : List Entry) (line : ℕ)
+    (refused : Bool) (taken taken_next : ℕ) (left left_next : Option (List ℕ)) (work : Work)
+    → HasServed desc base whole got_before got_now journal line refused taken left
+    → IfSome left (λ bytes.
+    IsStep (step_of desc base taken bytes) taken_next left_next (Ok (Some work)))
+    → Appends got_now got_next (reply desc line journal work)
+    → journal_next ≡ journal_after journal work
+    → HasServed desc base whole got_before got_next journal_next (line + 1)
+    (refused || is_refused work) taken_next left_next
+HasServed-item desc base whole got_before got_now got_next journal journal_next line refused
+    taken taken_next left left_next work served stepped put next =
+    let step = IfSome-known left served.rest
+    (λ bytes. IsStep (step_of desc base taken bytes) taken_next left_next (Ok (Some work)))
+    served.is_left stepped in
+    behind served.turns step.0 served.enough step.1 step.2 served.goes_on
+  where
+    behind : (turns : ℕ) (rest : List ℕ) → length served.rest ≤ turns
+        → step_of desc base taken served.rest ≡ Does work taken_next rest → left_next ≡ Some rest
+        → after_items served.items (session_from desc base (suc turns) taken served.rest) ≡ whole
+        → HasServed desc base whole got_before got_next journal_next (line + 1)
+        (refused || is_refused work) taken_next left_next
+    behind zero rest enough step is_left goes_on =
+        absurd (omega (
+          arith,
+          step_of-shorter desc base taken served.rest rest work taken_next step,
+        ))
+    behind (suc turns) rest enough step is_left goes_on = record {
+      rest = rest;
+      items = served.items ++ work ∷ [];
+      turns = turns;
+      is_left = is_left;
+      enough = omega (
+        arith,
+        step_of-shorter desc base taken served.rest rest work taken_next step,
+      );
+      goes_on = sym (after_items-push served.items work
+          (session_from desc base (suc turns) taken_next rest))
+          ∙ session_next desc base (suc turns) taken served.rest served.items whole
+          (Does work taken_next rest) step goes_on;
+      replied = Appends-reply got_before got_now got_next _ _ _ served.replied put
+          (ap (λ (line : ℕ). replies desc 1 [] served.items ++ reply desc line journal work)
+          served.counted
+          ∙ ap (λ (journal : List Entry). replies desc 1 [] served.items
+          ++ reply desc (1 + length served.items) journal work)
+          served.journaled
+          ∙ sym (replies-push desc served.items work));
+      journaled = next
+          ∙ ap (λ (journal : List Entry). journal_after journal work) served.journaled
+          ∙ sym (fold-append journal_after [] served.items (work ∷ []));
+      counted = omega (arith, served.counted, length-append served.items (work ∷ []));
+      told = ap (λ (refused : Bool). refused || is_refused work) served.told
+          ∙ ap (λ (last : Bool). has_refused served.items || last)
+          (sym (or-false (is_refused work)))
+          ∙ sym (list_any-append is_refused served.items (work ∷ []));
+    }

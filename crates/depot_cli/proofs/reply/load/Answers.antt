@@ -1,0 +1,28 @@
+-- A delivery that is no repeat has all of its rows kept.
+use Rattle.std.proofs.Common.{◌+◌, ℕ, List, length, sym, ◌∙◌, ap}
+use Rattle.table_desc.specs.Deliveries.{DeliveryOf}
+use Rattle.depot_cli.specs.Texts.{feed_name, loaded_text}
+use Rattle.depot_cli.proofs.ReplyLemmas.{load_reply-new}
+use Rattle.depot_cli.proofs.reply.load.Goals as goal
+
+pub returns-clause-exact : goal.returns-clause-exact
+returns-clause-exact c =
+    let inside = c.delivery.inside in
+    c.in_ok-text.ensures.exact
+    ∙ ap (λ (name : List ℕ). loaded_text name inside.number
+    (record { entry = c.len.result + 1; kept = c.len-2.result; aside = 0 }))
+    c.feed_name-feed.ensures
+    ∙ ap (λ (place : ℕ). loaded_text (feed_name c.args.desc.now inside.feed) inside.number
+    (record { entry = place + 1; kept = c.len-2.result; aside = 0 })) c.len.ensures
+    ∙ ap (λ (rows : ℕ). loaded_text (feed_name c.args.desc.now inside.feed) inside.number
+    (record { entry = length c.args.journal.now + 1; kept = rows; aside = 0 }))
+    (c.len-2.ensures ∙ inside.rows.ok.0)
+    ∙ ap (λ (delivery : DeliveryOf).
+    loaded_text (feed_name c.args.desc.now delivery.feed) delivery.number (record {
+      entry = length c.args.journal.now + 1;
+      kept = length delivery.rows;
+      aside = 0;
+    }))
+    c.delivery.view_is
+    ∙ sym (load_reply-new c.args.desc.now c.args.journal.now c.args.delivery
+    (sym c.has.ensures ∙ c.if-has.false))

@@ -1,0 +1,16 @@
+-- One partition more is one text more.
+use Rattle.std.proofs.Common.{◌++◌, ℕ, List, ◌∙◌, ap}
+use Rattle.view_meaning.specs.Shown.{shown_part}
+use Rattle.depot_cli.proofs.ReplyLemmas.{parts-more}
+use Rattle.depot_cli.proofs.reply.put_parts.Goals as goal
+
+pub parts-preserved : goal.parts-preserved
+parts-preserved c =
+    c.in-Ok.ensures.items
+    ∙ ap (λ (shown : List ℕ). c.parts.text.items ++ shown)
+    (c.deref.ensures.value ∙ c.in_ok-shown.ensures.exact)
+    ∙ parts-more c.args.table.now.name
+    (λ part. shown_part c.args.desc.now c.args.journal.now
+    (record { table = c.args.number; part = part }))
+    c.args.parts.first c.parts.part c.args.text.now.items c.parts.text.items
+    c.parts.auto.part c.parts.invariant

@@ -1,0 +1,40 @@
+-- Each line is read by what the lemmas on openings say of it.
+use Rattle.std.proofs.Common.{◌≡◌, ◌+◌, List, ℕ, false, arith, sym, ◌∙◌, ap, refl}
+use Rattle.depot_cli.specs.Words.{words}
+use Rattle.depot_cli.specs.Description.{Described, is_go, with_line}
+use Rattle.depot_cli.specs.Reading.{opening}
+use Rattle.depot_cli.proofs.KnownLemmas.{IfSome-map}
+use Rattle.depot_cli.proofs.OpeningLemmas.{HasOpened-init, HasOpened-line, lines-with_line}
+use Rattle.depot_cli.proofs.script.read_opening.Goals as goal
+
+pub lines-init : goal.lines-init
+lines-init g c = record {
+  opened = rw c.requires.start (HasOpened-init _ _ c.new-draft.ensures.exact);
+  few = rw c.new-draft.ensures.exact (omega arith);
+  within = omega arith;
+  faults = refl;
+  place = refl;
+}
+
+pub lines-preserved : goal.lines-preserved
+lines-preserved g c =
+    let there = c.if-not-branch.false in
+    let goes : is_go (words c.take_line.new.reader.line) ≡ false =
+    ap (λ (line : List ℕ). is_go (words line)) (sym c.line.ensures)
+    ∙ sym c.in_ok-is_go_line.ensures ∙ c.if-branch.false in
+    let next : c.add_line.new.self ≡ with_line c.lines.draft c.take_line.new.reader.line =
+    c.in_ok-add_line.ensures.ok
+    ∙ ap (λ (line : List ℕ). with_line c.lines.draft line) c.line-in-lines.ensures in
+    let counted = lines-with_line c.lines.draft c.take_line.new.reader.line in
+    let count : c.add_line.new.self.lines ≡ c.lines.draft.lines + 1 =
+    ap (λ (before : Described). before.lines) next ∙ counted in
+    record {
+      opened = rw next (IfSome-map _ _ _ (λ bytes opened.
+          HasOpened-line (opening bytes) _ _ _ 0 _ _ _ _ opened there
+          c.in_ok-take_line.ensures.answer c.in_ok-take_line.ensures.taken goes)
+          c.lines.invariant.opened);
+      few = omega (arith, c.in_ok-take_line.ensures.more there);
+      within = omega (arith, c.in_ok-take_line.ensures.limit);
+      faults = c.in_ok-take_line.ensures.cause ∙ c.lines.invariant.faults;
+      place = c.in_ok-take_line.ensures.place ∙ c.lines.invariant.place;
+    }

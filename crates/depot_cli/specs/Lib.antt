@@ -1,0 +1,10 @@
+pub mod Words
+pub mod Description
+pub mod Orders
+pub mod Bodies
+pub mod Reading
+pub mod ScriptCalls
+pub mod SerialJournal
+pub mod Texts
+pub mod Replies
+pub mod Runs

@@ -1,0 +1,175 @@
+-- The reading of a script: what its bytes say, item by item, and how it ends.
+use Rattle.std.specs.Prelude.{ℕ, zero, suc, ◌+◌, List, [], ◌∷◌, Option, Some, None, nat_lt, nat_le, if◌then◌else◌, length, take, drop, min}
+use Rattle.std.specs.Io.BufRead.{first_line}
+use Rattle.depot_io.specs.Lines.{LIMIT, line_take, span}
+use Rattle.table_desc.specs.declared.delivery.DRow.{DRow}
+use Rattle.table_desc.specs.Descriptions.{DescOf}
+use Rattle.depot_cli.specs.declared.order.Head.{Head}
+use Rattle.depot_cli.specs.declared.order.Order.{Order}
+use Rattle.depot_cli.specs.declared.order.Order.TheVariants as order
+use Rattle.depot_cli.specs.declared.work.Work.{Work}
+use Rattle.depot_cli.specs.declared.work.Work.TheVariants as work
+use Rattle.depot_cli.specs.declared.status.InputEnd.{InputEnd}
+use Rattle.depot_cli.specs.declared.status.InputEnd.TheVariants as why
+use Rattle.depot_cli.specs.Words.{words, is_empty}
+use Rattle.depot_cli.specs.Description.{Described, described, is_go}
+use Rattle.depot_cli.specs.Orders.{order_of}
+use Rattle.depot_cli.specs.Bodies.{rows_of}
+
+-- what the next line of an input is: there is none, it cannot be read, or it is there, with what
+-- is left behind it
+pub data NextLine : Type 0 where
+  NoLine : NextLine
+  Unreadable : InputEnd → NextLine
+  Line : (line rest : List ℕ) → NextLine
+
+-- the next line, where the reader took this many bytes before these
+abbrev pub next_line : (taken : ℕ) → List ℕ → NextLine
+next_line taken bytes =
+    if nat_le LIMIT (taken + line_take bytes) then Unreadable why.Long
+    else if is_empty bytes then NoLine
+    else if nat_lt 4096 (span bytes) then Unreadable why.LongLine
+    else Line (first_line bytes) (drop (line_take bytes) bytes)
+
+-- what the next body of an input is: it cannot be read whole, or it is there, with what is left
+-- behind it
+pub data NextBody : Type 0 where
+  Unfinished : InputEnd → NextBody
+  Body : (body rest : List ℕ) → NextBody
+
+-- the next body of this size, where the reader took this many bytes before these
+abbrev pub next_body : (taken size : ℕ) → List ℕ → NextBody
+next_body taken size bytes =
+    if nat_le LIMIT (taken + min size (length bytes)) then Unfinished why.Long
+    else if nat_lt (length bytes) size then Unfinished why.Cut
+    else Body (take size bytes) (drop size bytes)
+
+-- how a description ends: at its `go` line, with what is left behind it, or because the input
+-- cannot be read on at this place
+pub data OpeningEnd : Type 0 where
+  Go : (taken : ℕ) → (rest : List ℕ) → OpeningEnd
+  Broken : InputEnd → (place : ℕ) → OpeningEnd
+
+-- the lines before the `go` line, and how they end
+pub record Opening : Type 0 where
+  pub lines : List (List ℕ)
+  pub end : OpeningEnd
+
+-- an opening with one more line in front
+abbrev pub after_line : List ℕ → Opening → Opening
+after_line line opening = record opening { lines = line ∷ opening.lines }
+
+-- the opening that begins with this line, where `more` reads on
+abbrev pub opening_at : (more : List ℕ → Opening) → (taken : ℕ) → (bytes : List ℕ)
+    → NextLine → Opening
+opening_at more taken bytes NoLine = record { lines = []; end = Broken why.NoGo taken }
+opening_at more taken bytes (Unreadable cause) = record { lines = []; end = Broken cause taken }
+opening_at more taken bytes (Line line rest) =
+    if is_go (words line) then record { lines = []; end = Go (taken + line_take bytes) rest }
+    else after_line line (more rest)
+
+-- the opening of these bytes, in at most so many lines, where the reader took this many bytes
+-- before
+abbrev pub opening_from : (turns taken : ℕ) → List ℕ → Opening
+opening_from zero taken bytes = record { lines = []; end = Broken why.NoGo taken }
+opening_from (suc turns) taken bytes =
+    opening_at (opening_from turns (taken + line_take bytes)) taken bytes (next_line taken bytes)
+
+-- the opening of an input
+abbrev pub opening : List ℕ → Opening
+opening input = opening_from (suc (length input)) 0 input
+
+-- how a session ends: at the end of the input or at the word `end`, with what is left behind its
+-- line, or because the input cannot be read on at this place
+pub data SessionEnd : Type 0 where
+  Ended : (rest : List ℕ) → SessionEnd
+  Stopped : InputEnd → (place : ℕ) → SessionEnd
+
+-- the next step of a session: it ends, or there is something to do, with what was taken and is left
+pub data Step : Type 0 where
+  Ends : SessionEnd → Step
+  Does : Work → (taken : ℕ) → (rest : List ℕ) → Step
+
+-- what a body asks for by its rows
+abbrev pub load_of : Head → Option (List DRow) → Work
+load_of head None = work.Refused
+load_of head (Some rows) =
+    work.Load (record { feed = head.feed; number = head.number; closes = 0; rows = rows })
+
+-- what a body asks for: it is refused with its line
+abbrev pub body_work : DescOf → Option Head → List ℕ → Work
+body_work desc None body = work.Refused
+body_work desc (Some head) body = load_of head (rows_of desc head.feed body)
+
+-- the step at a body of this size, behind its line
+abbrev pub body_step : DescOf → (base taken : ℕ) → Option Head → (size : ℕ) → NextBody → Step
+body_step desc base taken head size (Unfinished cause) = Ends (Stopped cause (base + taken))
+body_step desc base taken head size (Body body rest) =
+    Does (body_work desc head body) (taken + size) rest
+
+-- the step that an order asks for, behind its line
+abbrev pub order_step : DescOf → (base taken : ℕ) → Order → List ℕ → Step
+order_step desc base taken order.Nothing rest = Does work.Nothing taken rest
+order_step desc base taken (order.Query item) rest = Does (work.Query item) taken rest
+order_step desc base taken order.End rest = Ends (Ended rest)
+order_step desc base taken order.Refused rest = Does work.Refused taken rest
+order_step desc base taken (order.Body head size) rest =
+    body_step desc base taken head size (next_body taken size rest)
+order_step desc base taken order.BigBody rest = Ends (Stopped why.Big (base + taken))
+
+-- the step at a line
+abbrev pub line_step : DescOf → (base taken : ℕ) → (bytes : List ℕ) → NextLine → Step
+line_step desc base taken bytes NoLine = Ends (Ended [])
+line_step desc base taken bytes (Unreadable cause) = Ends (Stopped cause (base + taken))
+line_step desc base taken bytes (Line line rest) =
+    order_step desc base (taken + line_take bytes) (order_of desc line) rest
+
+-- the next step of a session, whose input begins at the place `base` and of which so many bytes
+-- were taken
+abbrev pub step_of : DescOf → (base taken : ℕ) → List ℕ → Step
+step_of desc base taken bytes = line_step desc base taken bytes (next_line taken bytes)
+
+-- what the lines of a session ask for, in order, one item a line, and how it ends
+pub record Session : Type 0 where
+  pub items : List Work
+  pub end : SessionEnd
+
+-- a session with one more item in front
+abbrev pub after_item : Work → Session → Session
+after_item item session = record session { items = item ∷ session.items }
+
+-- the session that begins with this step, where `more` reads on
+abbrev pub session_at : (more : ℕ → List ℕ → Session) → Step → Session
+session_at more (Ends end) = record { items = []; end = end }
+session_at more (Does item taken rest) = after_item item (more taken rest)
+
+-- the session of these bytes, in at most so many lines
+abbrev pub session_from : DescOf → (base turns taken : ℕ) → List ℕ → Session
+session_from desc base zero taken bytes = record { items = []; end = Ended [] }
+session_from desc base (suc turns) taken bytes =
+    session_at (session_from desc base turns) (step_of desc base taken bytes)
+
+-- the session of an input that begins at this place
+abbrev pub session : DescOf → (base : ℕ) → List ℕ → Session
+session desc base input = session_from desc base (suc (length input)) 0 input
+
+-- the reading of an input: the description cannot be read to its `go` line, it is not accepted,
+-- or a session follows it
+pub data Script : Type 0 where
+  Unopened : InputEnd → (place : ℕ) → Script
+  Misdescribed : (line : ℕ) → Script
+  Served : DescOf → Session → Script
+
+-- the script behind a description, at its `go` line
+abbrev pub script_behind : Described → (base : ℕ) → List ℕ → Option ℕ → Script
+script_behind before base rest None = Served before.desc (session before.desc base rest)
+script_behind before base rest (Some line) = Misdescribed line
+
+-- the script that an opening begins
+abbrev pub script_at : Described → OpeningEnd → Script
+script_at before (Go taken rest) = script_behind before taken rest before.bad
+script_at before (Broken cause place) = Unopened cause place
+
+-- the reading of an input
+abbrev pub reading : List ℕ → Script
+reading input = script_at (described (opening input).lines) (opening input).end

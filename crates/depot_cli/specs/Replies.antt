@@ -1,0 +1,54 @@
+-- What is written in reply to the items of a script.
+use Rattle.std.specs.Prelude.{ℕ, ◌+◌, List, [], ◌∷◌, ◌++◌, Bool, true, false, if◌then◌else◌, length}
+use Rattle.std.specs.List.{list_any}
+use Rattle.table_desc.specs.Deliveries.{DeliveryOf}
+use Rattle.table_desc.specs.Descriptions.{DescOf}
+use Rattle.view_meaning.specs.declared.journal.Entry.{Entry}
+use Rattle.view_meaning.specs.declared.journal.Loaded.{Loaded}
+use Rattle.view_meaning.specs.Journal.{accepted}
+use Rattle.view_meaning.specs.SetAside.{kept_rows, aside_rows}
+use Rattle.view_meaning.specs.Shown.{shown}
+use Rattle.depot_cli.specs.declared.work.Work.{Work}
+use Rattle.depot_cli.specs.declared.work.Work.TheVariants as work
+use Rattle.depot_cli.specs.SerialJournal.{is_repeat, journal_after}
+use Rattle.depot_cli.specs.Texts.{feed_name, table_name, loaded_text, repeat_text, refused_text, answer_text}
+
+-- what loading a delivery behind a journal does
+abbrev pub loaded : DescOf → List Entry → DeliveryOf → Loaded
+loaded desc journal delivery = record {
+  entry = length journal + 1;
+  kept = length (kept_rows desc (accepted journal) delivery);
+  aside = length (aside_rows desc (accepted journal) delivery);
+}
+
+-- the reply to a delivery
+abbrev pub load_reply : DescOf → List Entry → DeliveryOf → List ℕ
+load_reply desc journal delivery =
+    if is_repeat journal delivery then repeat_text (feed_name desc delivery.feed) delivery.number
+    else loaded_text (feed_name desc delivery.feed) delivery.number (loaded desc journal delivery)
+
+-- the reply to the item of a line, after this journal
+abbrev pub reply : DescOf → (line : ℕ) → List Entry → Work → List ℕ
+reply desc line journal work.Nothing = []
+reply desc line journal work.Refused = refused_text line
+reply desc line journal (work.Load delivery) = load_reply desc journal delivery
+reply desc line journal (work.Query item) =
+    answer_text (table_name desc item.table) (length journal) (shown desc journal item)
+
+-- the replies to items, one a line from this line on, each after the journal that those before it
+-- made
+abbrev pub replies : DescOf → (line : ℕ) → List Entry → List Work → List ℕ
+replies desc line journal [] = []
+replies desc line journal (item ∷ items) =
+    reply desc line journal item ++ replies desc (line + 1) (journal_after journal item) items
+
+-- whether an item is refused
+abbrev pub is_refused : Work → Bool
+is_refused work.Nothing = false
+is_refused work.Refused = true
+is_refused (work.Load _) = false
+is_refused (work.Query _) = false
+
+-- whether a `refused` reply is among those to the items
+abbrev pub has_refused : List Work → Bool
+has_refused items = list_any is_refused items

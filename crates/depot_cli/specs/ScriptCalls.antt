@@ -1,0 +1,94 @@
+-- What the calls that read a script answer, by its reading.
+use Rattle.std.specs.Prelude.{ℕ, ◌≡◌, ◌≤◌, List, [], Option, Some, None, Bool, true, false, Result, Ok, Err, ⊤}
+use Rattle.depot_io.specs.Causes.{Rose}
+use Rattle.depot_cli.specs.declared.script.ScriptFault.{ScriptFault}
+use Rattle.depot_cli.specs.declared.script.ScriptFault.TheVariants.{Input, ReadFault, Memory}
+use Rattle.depot_cli.specs.declared.status.Status.{Status}
+use Rattle.depot_cli.specs.declared.status.Status.TheVariants as status
+use Rattle.depot_cli.specs.declared.work.Work.{Work}
+use Rattle.depot_cli.specs.declared.work.Work.TheVariants as work
+use Rattle.view_meaning.specs.Partitions.{END}
+use Rattle.depot_cli.specs.Description.{Described, described}
+use Rattle.depot_cli.specs.Reading.{NextLine, NoLine, Unreadable, Line, NextBody, Unfinished, Body, Opening, Go, Broken, Step, Ends, Does, Ended, Stopped}
+
+-- known bytes are these
+abbrev pub IsLeft : Option (List ℕ) → List ℕ → Type 0
+IsLeft left rest = left ≡ Some rest
+
+-- the answer for a next line at a place: whether there is one, which it is, and what is left
+-- behind it
+abbrev pub IsNextLine : NextLine → (place : ℕ) → (line : List ℕ)
+    → (left : Option (List ℕ)) → Result Bool ScriptFault → Type 0
+IsNextLine next place line left (Ok true) =
+    (rest : List ℕ) × (next ≡ Line line rest) × IsLeft left rest
+IsNextLine next place line left (Ok false) = (next ≡ NoLine) × IsLeft left []
+IsNextLine next place line left (Err (Input why at)) = (next ≡ Unreadable why) × (at ≡ place)
+IsNextLine next place line left (Err ReadFault) = ⊤
+IsNextLine next place line left (Err Memory) = ⊥
+
+-- the answer for a next body at a place: which it is, and what is left behind it
+abbrev pub IsNextBody : NextBody → (place : ℕ) → (body : List ℕ)
+    → (left : Option (List ℕ)) → Result (Unit {0}) ScriptFault → Type 0
+IsNextBody next place body left (Ok _) =
+    (rest : List ℕ) × (next ≡ Body body rest) × IsLeft left rest
+IsNextBody next place body left (Err (Input why at)) = (next ≡ Unfinished why) × (at ≡ place)
+IsNextBody next place body left (Err ReadFault) = ⊤
+IsNextBody next place body left (Err Memory) = ⊤
+
+-- the answer for an opening: what its lines describe, and what was taken and is left behind it
+abbrev pub IsOpening : Opening → (taken : ℕ) → (left : Option (List ℕ))
+    → Result Described ScriptFault → Type 0
+IsOpening opening taken left (Ok before) = (rest : List ℕ)
+    × (before ≡ described opening.lines) × (opening.end ≡ Go taken rest) × IsLeft left rest
+IsOpening opening taken left (Err (Input why place)) = opening.end ≡ Broken why place
+IsOpening opening taken left (Err ReadFault) = ⊤
+IsOpening opening taken left (Err Memory) = ⊤
+
+-- the answer for a step: what it does, with what was taken and is left behind it, or how it ends
+abbrev pub IsStep : Step → (taken : ℕ) → (left : Option (List ℕ))
+    → Result (Option Work) ScriptFault → Type 0
+IsStep step taken left (Ok (Some work)) =
+    (rest : List ℕ) × (step ≡ Does work taken rest) × IsLeft left rest
+IsStep step taken left (Ok None) = (rest : List ℕ) × (step ≡ Ends (Ended rest)) × IsLeft left rest
+IsStep step taken left (Err (Input why place)) = step ≡ Ends (Stopped why place)
+IsStep step taken left (Err ReadFault) = ⊤
+IsStep step taken left (Err Memory) = ⊤
+
+-- the count of the source's faults rose where the source is blamed, and else stayed
+abbrev pub IsScriptCause : {T : Type 0} → (before now : ℕ) → Result T ScriptFault → Type 0
+IsScriptCause before now (Err ReadFault) = Rose before now
+IsScriptCause before now (Err (Input _ _)) = now ≡ before
+IsScriptCause before now (Err Memory) = now ≡ before
+IsScriptCause before now (Ok _) = now ≡ before
+
+-- a query asks for ticks in order and in time
+abbrev pub IsAnswerable : Work → Type 0
+IsAnswerable work.Nothing = ⊤
+IsAnswerable work.Refused = ⊤
+IsAnswerable (work.Load _) = ⊤
+IsAnswerable (work.Query item) = (item.from ≤ item.to) × (item.to ≤ END)
+
+-- the status of a script that was not read on
+abbrev pub status_of_fault : ScriptFault → Status
+status_of_fault (Input why place) = status.Input why place
+status_of_fault ReadFault = status.ReadFault
+status_of_fault Memory = status.Memory
+
+-- a reply was put, or there was no memory, or the sink failed: its count of faults rose, and else
+-- stayed
+abbrev pub IsReplyCause : {T : Type 0} → (before now : ℕ) → Result T Status → Type 0
+IsReplyCause before now (Ok _) = now ≡ before
+IsReplyCause before now (Err status.Memory) = now ≡ before
+IsReplyCause before now (Err status.WriteFault) = Rose before now
+IsReplyCause before now (Err status.Done) = ⊥
+IsReplyCause before now (Err status.Refused) = ⊥
+IsReplyCause before now (Err status.Usage) = ⊥
+IsReplyCause before now (Err (status.BadDescription _ _)) = ⊥
+IsReplyCause before now (Err (status.Input _ _)) = ⊥
+IsReplyCause before now (Err status.ReadFault) = ⊥
+
+-- the answer for an opening that was taken off a lent source, and how many bytes it took
+abbrev pub IsOpened : Opening → (left : Option (List ℕ))
+    → Result (Described × ℕ) ScriptFault → Type 0
+IsOpened opening left (Ok (before, taken)) = IsOpening opening taken left (Ok before)
+IsOpened opening left (Err fault) = IsOpening opening 0 left (Err fault)

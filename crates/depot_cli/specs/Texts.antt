@@ -1,0 +1,82 @@
+-- The texts of the replies. Each line ends with LF, and numbers are in the shortest decimal form.
+use Rattle.std.specs.Prelude.{ℕ, List, [], ◌∷◌, ◌++◌, codes, decimal, length, map, flat_map, slice_get, Option, Some, None}
+use Rattle.csv.specs.Writing.{row_text, default_writer}
+use Rattle.depot_cell.specs.declared.cell.Cell.{Cell}
+use Rattle.depot_cell.specs.Spelling.{text_of}
+use Rattle.table_desc.specs.declared.table.Feed.{Feed}
+use Rattle.table_desc.specs.Descriptions.{DescOf}
+use Rattle.table_desc.specs.Tables.{TableOf}
+use Rattle.view_meaning.specs.declared.journal.Loaded.{Loaded}
+use Rattle.view_meaning.specs.declared.request.Mark.{Mark}
+use Rattle.view_meaning.specs.declared.request.Mark.TheVariants as mark
+use Rattle.view_meaning.specs.declared.request.PinItem.{PinItem}
+use Rattle.view_meaning.specs.Shown.{ShownPart}
+
+-- the end of a line
+abbrev pub line_end : List ℕ
+line_end = 10 ∷ []
+
+-- the name of a feed, and nothing where there is none
+abbrev pub name_of_feed : Option Feed → List ℕ
+name_of_feed None = []
+name_of_feed (Some feed) = feed.name
+
+-- the name of a table, and nothing where there is none
+abbrev pub name_of : Option TableOf → List ℕ
+name_of None = []
+name_of (Some table) = table.name
+
+-- the name of the feed with this number
+abbrev pub feed_name : DescOf → ℕ → List ℕ
+feed_name desc feed = name_of_feed (slice_get desc.feeds feed)
+
+-- the name of the table with this number
+abbrev pub table_name : DescOf → ℕ → List ℕ
+table_name desc table = name_of (slice_get desc.tables table)
+
+-- a delivery was accepted
+abbrev pub loaded_text : (feed : List ℕ) → (number : ℕ) → Loaded → List ℕ
+loaded_text feed number loaded =
+    codes "loaded " ++ feed ++ codes " " ++ decimal number
+    ++ codes " entry " ++ decimal loaded.entry
+    ++ codes " kept " ++ decimal loaded.kept ++ codes " aside " ++ decimal loaded.aside ++ line_end
+
+-- a delivery is a repeat
+abbrev pub repeat_text : (feed : List ℕ) → (number : ℕ) → List ℕ
+repeat_text feed number = codes "repeat " ++ feed ++ codes " " ++ decimal number ++ line_end
+
+-- a line was refused: the causes are not told apart yet
+abbrev pub refused_text : (line : ℕ) → List ℕ
+refused_text line = codes "refused " ++ decimal line ++ codes " later" ++ line_end
+
+-- the word of a mark
+abbrev pub mark_text : Mark → List ℕ
+mark_text mark.Open = codes "open"
+mark_text mark.Closed = codes "closed"
+mark_text mark.Complete = codes "complete"
+
+-- the line of a partition that is shown
+abbrev pub part_text : (table : List ℕ) → PinItem → (rows : ℕ) → List ℕ
+part_text table item rows =
+    codes "part " ++ table ++ codes " " ++ decimal item.key.part
+    ++ codes " version " ++ decimal item.version
+    ++ codes " upto " ++ decimal item.upto ++ codes " mark " ++ mark_text item.mark
+    ++ codes " rows " ++ decimal rows ++ line_end
+
+-- rows as CSV: for each the text of its cells, by the CSV writer with its default setup
+abbrev pub rows_text : List (List Cell) → List ℕ
+rows_text rows = flat_map (λ row. row_text default_writer (map text_of row)) rows
+
+-- a partition that is shown, with its rows
+abbrev pub shown_text : (table : List ℕ) → ShownPart → List ℕ
+shown_text table shown = part_text table shown.item (length shown.rows) ++ rows_text shown.rows
+
+-- the first line of an answer: its place in the journal, and how many partitions follow
+abbrev pub answer_line : (place parts : ℕ) → List ℕ
+answer_line place parts =
+    codes "answer at " ++ decimal place ++ codes " parts " ++ decimal parts ++ line_end
+
+-- an answer at a place of the journal
+abbrev pub answer_text : (table : List ℕ) → (place : ℕ) → List ShownPart → List ℕ
+answer_text table place parts =
+    answer_line place (length parts) ++ flat_map (shown_text table) parts

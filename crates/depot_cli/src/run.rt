@@ -1,0 +1,134 @@
+//! The top call: all that the program does.
+
+ghost use Rattle.std.specs.Prelude.{◌≡◌, ◌↔◌, ◌≤◌, IfSome, IfOk, false, map, string_bytes};
+ghost use Rattle.std.specs.Io.KnownBytes.{Keeps};
+ghost use Rattle.depot_io.specs.Causes.{Rose};
+ghost use Rattle.depot_io.specs.Lines.{LIMIT};
+ghost use Rattle.depot_cli.specs.Description.{IsSmall};
+ghost use Rattle.depot_cli.specs.Reading.{Served, opening, reading, session};
+ghost use Rattle.depot_cli.specs.ScriptCalls.{IsOpened, IsScriptCause};
+ghost use Rattle.depot_cli.specs.Runs.{EndsSession, HasRunCauses, IsRun, is_trial};
+
+use crate::description::Draft;
+use crate::script::{ScriptFault, read_opening};
+use crate::session::{serve, status_of};
+use crate::status::{DescCause, Status};
+use depot_io::{LineReader, Sink, Source};
+use std::alloc::Global;
+use table_desc::Desc;
+
+/// Runs a command: `words` are those behind the folder. The one command is `trial`. It reads a
+/// description up to its `go` line and then session lines off the source, and puts the replies
+/// into the sink. Other words are Usage, and nothing is read or written.
+pub fn run<S: Source, O: Sink>(
+    alloc: Global,
+    words: &[String],
+    source: &mut S,
+    sink: &mut O,
+) -> Status
+    ensures usage { (result ≡ Status.Usage) ↔ (is_trial (map string_bytes words.now) ≡ false) }
+    ensures untouched { result ≡ Status.Usage → (source.new ≡ source.old) × (sink.new ≡ sink.old) }
+    ensures run { IfSome (S.bytes_left source.old) (λ input.
+        IsRun (reading input) (O.bytes_got sink.old) (O.bytes_got sink.new)
+        (S.bytes_left source.new) result) }
+    ensures causes { HasRunCauses (S.faults source.old) (S.faults source.new)
+        (O.faults sink.old) (O.faults sink.new) result }
+{
+    if is_trial(words) {
+        trial(alloc, source, sink)
+    } else {
+        Status::Usage
+    }
+}
+
+/// Whether the words are the command `trial`.
+fn is_trial(words: &[String]) -> bool
+    ensures { result ≡ is_trial (map string_bytes words.now) }
+{
+    match words {
+        [word] => word.as_bytes() == b"trial".as_slice(),
+        _ => false,
+    }
+}
+
+/// Runs a script over a journal of its own, that begins empty and ends with the run.
+fn trial<S: Source, O: Sink>(alloc: Global, source: &mut S, sink: &mut O) -> Status
+    ensures others { result ≡ Status.Usage → ⊥ }
+    ensures run { IfSome (S.bytes_left source.old) (λ input.
+        IsRun (reading input) (O.bytes_got sink.old) (O.bytes_got sink.new)
+        (S.bytes_left source.new) result) }
+    ensures causes { HasRunCauses (S.faults source.old) (S.faults source.new)
+        (O.faults sink.old) (O.faults sink.new) result }
+{
+    let (draft, base) = match open(alloc, source) {
+        Ok(opened) => opened,
+        Err(fault) => return status_of(fault),
+    };
+    match draft.bad() {
+        Some(line) => {
+            return Status::BadDescription {
+                line,
+                cause: DescCause::Later,
+            };
+        }
+        None => {}
+    }
+    let desc = draft.into_desc();
+    serve_source(alloc, &desc, base, source, sink)
+}
+
+/// Takes a description off a source, up to its `go` line, and says how many bytes that took.
+fn open<S: Source>(alloc: Global, source: &mut S) -> Result<(Draft, u64), ScriptFault>
+    ensures answer { IfSome (S.bytes_left source.old) (λ input.
+        IsOpened (opening input) (S.bytes_left source.new) result) }
+    ensures within { IfOk result (λ opened. opened.1 ≤ LIMIT) }
+    ensures cause { IsScriptCause (S.faults source.old) (S.faults source.new) result }
+{
+    let mut reader = match LineReader::new(alloc, &mut *source) {
+        Ok(reader) => reader,
+        Err(refusal) => {
+            let (lent, _) = refusal;
+            let _ = lent;
+            return Err(ScriptFault::Memory);
+        }
+    };
+    let opened = read_opening(alloc, &mut reader);
+    let taken = reader.taken();
+    let lent = reader.into_source();
+    let _ = lent;
+    match opened {
+        Ok(draft) => Ok((draft, taken)),
+        Err(fault) => Err(fault),
+    }
+}
+
+/// Serves the session lines that a source has left. `base` is the place at which they begin.
+fn serve_source<S: Source, O: Sink>(
+    alloc: Global,
+    desc: &Desc,
+    base: u64,
+    source: &mut S,
+    sink: &mut O,
+) -> Status
+    requires small { IsSmall desc.now }
+    requires in_input { base ≤ LIMIT }
+    ensures run { IfSome (S.bytes_left source.old) (λ input.
+        IsRun (Served desc.now (session desc.now base input)) (O.bytes_got sink.old)
+        (O.bytes_got sink.new) (S.bytes_left source.new) result) }
+    ensures causes { HasRunCauses (S.faults source.old) (S.faults source.new)
+        (O.faults sink.old) (O.faults sink.new) result }
+    ensures others { EndsSession result }
+{
+    let mut reader = match LineReader::new(alloc, &mut *source) {
+        Ok(reader) => reader,
+        Err(refusal) => {
+            let (lent, _) = refusal;
+            let _ = lent;
+            return Status::Memory;
+        }
+    };
+    let status = serve(alloc, desc, base, &mut reader, sink);
+    let lent = reader.into_source();
+    let _ = lent;
+    status
+}

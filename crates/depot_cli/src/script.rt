@@ -1,0 +1,202 @@
+//! Reading a script: its lines and bodies, and what each asks for.
+
+ghost use Rattle.std.specs.Prelude.{◌≡◌, ◌+◌, ◌≤◌, ◌<◌, length, IfSome, IfOk, OnOk, OnSome, Ok, true};
+ghost use Rattle.depot_io.specs.Lines.{LIMIT, line_take};
+ghost use Rattle.depot_cli.specs.Words.{words};
+ghost use Rattle.depot_cli.specs.Description.{IsSmall, is_go};
+ghost use Rattle.depot_cli.specs.Orders.{BODY_LIMIT};
+ghost use Rattle.depot_cli.specs.Reading.{next_line, next_body, body_work as work_of_body, step_of, opening};
+ghost use Rattle.depot_cli.specs.ScriptCalls.{IsAnswerable, IsNextLine, IsNextBody, IsOpening, IsStep, IsScriptCause};
+
+use crate::body::read_rows;
+use crate::description::Draft;
+use crate::order::{Head, Order, read_order};
+use crate::status::InputEnd;
+use crate::words::{is_go, words_of};
+use crate::work::Work;
+use depot_cell::Memory;
+use depot_io::{Line, LineFault, LineReader, Source};
+use std::alloc::Global;
+use table_desc::{Delivery, Desc};
+
+/// Why a script was not read on.
+#[derive(Clone, Copy, Debug, PartialEq, Eq, Drop)]
+pub enum ScriptFault {
+    /// The input ends badly; `place` is the offset of the first byte of what could not be read.
+    Input { why: InputEnd, place: u64 },
+    /// The source failed.
+    ReadFault,
+    Memory,
+}
+
+impl From<Memory> for ScriptFault {
+    ghost use Rattle.depot_cli.specs.declared.script.ScriptFault.TheVariants as script_fault;
+
+    ghost from_gives = { λ _ fault. fault ≡ script_fault.Memory };
+
+    fn from(_memory: Memory) -> ScriptFault {
+        ScriptFault::Memory
+    }
+}
+
+/// Takes the next line, and says whether there is one. `base` is the place at which the reader's
+/// input begins.
+pub fn take_line<S: Source>(base: u64, reader: &mut LineReader<S>) -> Result<bool, ScriptFault>
+    requires in_input { base ≤ LIMIT }
+    requires not_long { reader.old.taken ≤ LIMIT }
+    ensures answer { IfSome (S.bytes_left reader.old.source) (λ bytes.
+        IsNextLine (next_line reader.old.taken bytes) (base + reader.old.taken) reader.new.line
+        (S.bytes_left reader.new.source) result) }
+    ensures taken { IfSome (S.bytes_left reader.old.source) (λ bytes.
+        IfOk result (λ _. reader.new.taken ≡ reader.old.taken + line_take bytes)) }
+    ensures more { IfOk result (λ there. there ≡ true → reader.old.taken < reader.new.taken) }
+    ensures limit { reader.new.taken ≤ LIMIT }
+    ensures cause { IsScriptCause (S.faults reader.old.source) (S.faults reader.new.source) result }
+    ensures place { S.place reader.new.source ≡ S.place reader.old.source }
+{
+    let place = base + reader.taken();
+    match reader.next_line() {
+        Ok(Line::Text { .. }) => Ok(true),
+        Ok(Line::End) => Ok(false),
+        Err(LineFault::LongLine) => Err(ScriptFault::Input {
+            why: InputEnd::LongLine,
+            place,
+        }),
+        Err(LineFault::Long) => Err(ScriptFault::Input {
+            why: InputEnd::Long,
+            place,
+        }),
+        Err(LineFault::ReadFault) => Err(ScriptFault::ReadFault),
+        Err(LineFault::Cut) | Err(LineFault::Memory) => unreachable!(),
+    }
+}
+
+/// Takes the next body, of `size` bytes.
+fn take_body<S: Source>(
+    base: u64,
+    size: u64,
+    reader: &mut LineReader<S>,
+    body: &mut Vec<u8>,
+) -> Result<(), ScriptFault>
+    requires in_input { base ≤ LIMIT }
+    requires not_long { reader.old.taken ≤ LIMIT }
+    ensures answer { IfSome (S.bytes_left reader.old.source) (λ bytes.
+        IsNextBody (next_body reader.old.taken size bytes) (base + reader.old.taken) body.new.items
+        (S.bytes_left reader.new.source) result) }
+    ensures taken { OnOk result (reader.new.taken ≡ reader.old.taken + size) }
+    ensures len { OnOk result (length body.new.items ≡ size) }
+    ensures limit { reader.new.taken ≤ LIMIT }
+    ensures cause { IsScriptCause (S.faults reader.old.source) (S.faults reader.new.source) result }
+    ensures place { S.place reader.new.source ≡ S.place reader.old.source }
+{
+    let place = base + reader.taken();
+    match reader.take_exact(size, body) {
+        Ok(()) => Ok(()),
+        Err(LineFault::Cut) => Err(ScriptFault::Input {
+            why: InputEnd::Cut,
+            place,
+        }),
+        Err(LineFault::Long) => Err(ScriptFault::Input {
+            why: InputEnd::Long,
+            place,
+        }),
+        Err(LineFault::ReadFault) => Err(ScriptFault::ReadFault),
+        Err(LineFault::Memory) => Err(ScriptFault::Memory),
+        Err(LineFault::LongLine) => unreachable!(),
+    }
+}
+
+/// What a body asks for: it is refused with its line.
+fn body_work(alloc: Global, desc: &Desc, head: Option<Head>, body: &[u8]) -> Result<Work, Memory>
+    requires { length body.now ≤ BODY_LIMIT }
+    ensures exact { IfOk result (λ work. work ≡ work_of_body desc.now head body.now) }
+{
+    let Some(head) = head else {
+        return Ok(Work::Refused);
+    };
+    match read_rows(alloc, desc, head.feed, body)? {
+        Some(rows) => Ok(Work::Load(Delivery {
+            feed: head.feed,
+            number: head.number,
+            closes: 0,
+            rows,
+        })),
+        None => Ok(Work::Refused),
+    }
+}
+
+/// Takes what the next line asks for, with its body; nothing where the session ends, at the end
+/// of the input or at the word `end`. `body` is room that is used again.
+pub fn next_work<S: Source>(
+    alloc: Global,
+    desc: &Desc,
+    base: u64,
+    reader: &mut LineReader<S>,
+    body: &mut Vec<u8>,
+) -> Result<Option<Work>, ScriptFault>
+    requires small { IsSmall desc.now }
+    requires in_input { base ≤ LIMIT }
+    requires not_long { reader.old.taken ≤ LIMIT }
+    ensures answer { IfSome (S.bytes_left reader.old.source) (λ bytes.
+        IsStep (step_of desc.now base reader.old.taken bytes) reader.new.taken
+        (S.bytes_left reader.new.source) result) }
+    ensures in_range { IfOk result (λ work. IfSome work IsAnswerable) }
+    ensures more { IfOk result (λ work. OnSome work (reader.old.taken < reader.new.taken)) }
+    ensures limit { reader.new.taken ≤ LIMIT }
+    ensures cause { IsScriptCause (S.faults reader.old.source) (S.faults reader.new.source) result }
+    ensures place { S.place reader.new.source ≡ S.place reader.old.source }
+{
+    if !take_line(base, reader)? {
+        return Ok(None);
+    }
+    match read_order(alloc, desc, reader.line())? {
+        Order::Nothing => Ok(Some(Work::Nothing)),
+        Order::Refused => Ok(Some(Work::Refused)),
+        Order::Query(item) => Ok(Some(Work::Query(item))),
+        Order::End => Ok(None),
+        Order::BigBody => Err(ScriptFault::Input {
+            why: InputEnd::Big,
+            place: base + reader.taken(),
+        }),
+        Order::Body { head, size } => {
+            take_body(base, size, reader, body)?;
+            Ok(Some(body_work(alloc, desc, head, body)?))
+        }
+    }
+}
+
+/// Whether a line ends a description: its only word is `go`.
+fn is_go_line(alloc: Global, line: &[u8]) -> Result<bool, Memory>
+    ensures { IfOk result (λ goes. goes ≡ is_go (words line.now)) }
+{
+    let words = words_of(alloc, line)?;
+    Ok(is_go(&words))
+}
+
+/// Takes the lines of a description up to its `go` line, from the start of an input, and reads
+/// them.
+pub fn read_opening<S: Source>(
+    alloc: Global,
+    reader: &mut LineReader<S>,
+) -> Result<Draft, ScriptFault>
+    requires start { reader.old.taken ≡ 0 }
+    ensures answer { IfSome (S.bytes_left reader.old.source) (λ bytes.
+        IsOpening (opening bytes) reader.new.taken (S.bytes_left reader.new.source) result) }
+    ensures limit { reader.new.taken ≤ LIMIT }
+    ensures cause { IsScriptCause (S.faults reader.old.source) (S.faults reader.new.source) result }
+    ensures place { S.place reader.new.source ≡ S.place reader.old.source }
+{
+    let mut draft = Draft::new(alloc);
+    'lines: loop {
+        if !take_line(0, reader)? {
+            return Err(ScriptFault::Input {
+                why: InputEnd::NoGo,
+                place: reader.taken(),
+            });
+        }
+        if is_go_line(alloc, reader.line())? {
+            return Ok(draft);
+        }
+        draft.add_line(alloc, reader.line())?;
+    }
+}

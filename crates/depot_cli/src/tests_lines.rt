@@ -1,0 +1,206 @@
+//! Lines of descriptions and sessions: what is accepted, and what is refused.
+
+ghost use Rattle.std.specs.Prelude.{◌<◌, length};
+
+use crate::description::Draft;
+use crate::names::is_name;
+use crate::order::{Head, Order, read_order};
+use crate::words::{is_go, is_skipped, is_word, words_of};
+use depot_cell::Memory;
+use std::alloc::Global;
+use std::test::Fail;
+use view_meaning::{Item, Mark};
+
+const FEED: &str = "feed f";
+
+const RAW: &str = "raw r feed f width 10 time at cols at:int k:text n:int";
+
+#[test]
+fn words_stand_between_blanks(rt: HostRuntime) -> Result<(), Fail> {
+    let alloc = rt.alloc();
+    let words = words_of(alloc, b" a \t bb ")?;
+    match words.as_slice() {
+        [first, second] => {
+            assert!(rt; is_word(first, b"a"));
+            assert!(rt; is_word(second, b"bb"));
+        }
+        _ => assert!(rt; false),
+    }
+    for (line, goes, skipped) in [
+        ("go", true, false),
+        (" go\t", true, false),
+        ("go on", false, false),
+        ("Go", false, false),
+        ("", false, true),
+        (" \t", false, true),
+        (" #go", false, true),
+        ("go #", false, false),
+    ] {
+        let words = words_of(alloc, line.as_bytes())?;
+        assert_eq!(rt; is_go(&words), goes, "at {line}");
+        assert_eq!(rt; is_skipped(&words), skipped, "at {line}");
+    }
+    Ok(())
+}
+
+#[test]
+fn names_have_up_to_32_letters_and_digits(rt: HostRuntime) {
+    for (word, want) in [
+        ("a", true),
+        ("Z_9", true),
+        ("abcdefghijklmnopqrstuvwxyzABCDEF", true),
+        ("abcdefghijklmnopqrstuvwxyzABCDEFG", false),
+        ("by", false),
+        ("where", false),
+        ("By", true),
+        ("1a", false),
+        ("_a", false),
+        ("a-b", false),
+        ("", false),
+    ] {
+        assert_eq!(rt; is_name(word.as_bytes()), want, "at {word}");
+    }
+}
+
+fn draft_of(alloc: Global, lines: &[&str]) -> Result<Draft, Memory>
+    requires { length lines.now < 100 }
+{
+    let mut draft = Draft::new(alloc);
+    for line in lines {
+        draft.add_line(alloc, line.as_bytes())?;
+    }
+    Ok(draft)
+}
+
+#[test]
+fn description_is_read(rt: HostRuntime) -> Result<(), Fail> {
+    let alloc = rt.alloc();
+    let draft = draft_of(alloc, &["# an example", "", FEED, RAW])?;
+    assert_eq!(rt; draft.bad(), None);
+    let desc = draft.into_desc();
+    assert_eq!(rt; desc.feeds.len(), 1);
+    match desc.tables.as_slice() {
+        [table] => {
+            assert_eq!(rt; table.width.ticks(), 10);
+            assert_eq!(rt; table.columns.len(), 3);
+        }
+        _ => assert!(rt; false),
+    }
+    Ok(())
+}
+
+#[test]
+fn bad_lines_are_named(rt: HostRuntime) -> Result<(), Fail> {
+    for line in [
+        "feed g",
+        "feed f header",
+        "raw r feed g width 10 time at cols at:int",
+        "raw r feed f width 0 time at cols at:int",
+        "raw r feed f width 1099511627777 time at cols at:int",
+        "raw r feed f width 10 time k cols at:int k:text",
+        "raw r feed f width 10 time at cols at:int at:text",
+        "raw r feed f width 10 time at cols at:int n:float",
+        "raw r feed f width 10 time at cols at:int by:text",
+        "raw r feed f width 10 time at cols",
+        "raw by feed f width 10 time at cols at:int",
+        "view v of r",
+    ] {
+        let draft = draft_of(rt.alloc(), &[FEED, line, FEED])?;
+        assert_eq!(rt; draft.bad(), Some(2), "at {line}");
+    }
+    let twice = draft_of(rt.alloc(), &[FEED, RAW, RAW])?;
+    assert_eq!(rt; twice.bad(), Some(3));
+    Ok(())
+}
+
+#[test]
+fn session_lines_are_read_or_refused(rt: HostRuntime) -> Result<(), Fail> {
+    let alloc = rt.alloc();
+    let desc = draft_of(alloc, &[FEED, RAW])?.into_desc();
+    let head = Some(Head { feed: 0, number: 7 });
+    for (line, want) in [
+        ("deliver f 7 0 20", Order::Body { head, size: 20 }),
+        ("deliver f 7 00 020", Order::Body { head, size: 20 }),
+        (
+            "deliver f 7 1 20",
+            Order::Body {
+                head: None,
+                size: 20,
+            },
+        ),
+        (
+            "deliver g 7 0 20",
+            Order::Body {
+                head: None,
+                size: 20,
+            },
+        ),
+        (
+            "deliver f 4294967296 0 0",
+            Order::Body {
+                head: None,
+                size: 0,
+            },
+        ),
+        (
+            "deliver f 7 0 16777216",
+            Order::Body {
+                head,
+                size: 16_777_216,
+            },
+        ),
+        ("deliver f 7 0 16777217", Order::BigBody),
+        ("deliver f 7 0", Order::Refused),
+        ("deliver f 7 0 20 1", Order::Refused),
+        ("deliver f 7 0 x", Order::Refused),
+        ("end", Order::End),
+        ("end x", Order::Refused),
+        ("drain", Order::Refused),
+        ("", Order::Nothing),
+        ("# end", Order::Nothing),
+    ] {
+        assert_eq!(rt;
+            read_order(alloc, &desc, line.as_bytes())?,
+            want,
+            "at {line}"
+        );
+    }
+    Ok(())
+}
+
+#[test]
+fn queries_are_read_or_refused(rt: HostRuntime) -> Result<(), Fail> {
+    let alloc = rt.alloc();
+    let desc = draft_of(alloc, &[FEED, RAW])?.into_desc();
+    for (line, want) in [
+        ("query r 0 655360", Some((0, 655_360))),
+        ("query r 10 655370", Some((10, 655_370))),
+        ("query r 5 5", Some((5, 5))),
+        (
+            "query r 1099511627776 1099511627776",
+            Some((1_099_511_627_776, 1_099_511_627_776)),
+        ),
+        ("query r 1099511627776 1099511627777", None),
+        ("query r 20 0", None),
+        ("query r 0 655361", None),
+        ("query r 0 700000", None),
+        ("query s 0 10", None),
+        ("query r 0", None),
+    ] {
+        let want = match want {
+            Some((from, to)) => Order::Query(Item {
+                table: 0,
+                from,
+                to,
+                level: Mark::Open,
+            }),
+            None => Order::Refused,
+        };
+        assert_eq!(rt;
+            read_order(alloc, &desc, line.as_bytes())?,
+            want,
+            "at {line}"
+        );
+    }
+    Ok(())
+}
