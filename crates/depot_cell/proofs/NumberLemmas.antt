@@ -1,5 +1,6 @@
 -- What a numeral is made of, and how great its number is. `own` gives std's lemmas on digits.
-use Rattle.std.proofs.Common.{◌≡◌, ℕ, ◌+◌, ◌-◌, ◌*◌, ◌^◌, ◌<◌, ◌≤◌, List, [], ◌∷◌, suc, true, ap, length, drop, get_or, arith, rules, drop-cons}
+use Rattle.std.proofs.Common.{◌≡◌, ◌∙◌, ℕ, ◌+◌, ◌-◌, ◌*◌, ◌^◌, ◌<◌, ◌≤◌, List, [], ◌∷◌, ◌++◌, true, refl, ap, length, take, get_or, arith, rules}
+use Rattle.std.proofs.lemmas.List.{length-take, take_more}
 use Rattle.std.specs.List.{list_all}
 use Rattle.std.specs.Char.{is_ascii_digit}
 use Rattle.std.specs.Int.{IsInRange}
@@ -21,22 +22,23 @@ pub is_numeral-at : (bytes : List ℕ) (i : ℕ) → is_numeral bytes ≡ true �
 is_numeral-at bytes i numeral within =
     digit_at bytes i (own.to bytes (is_numeral-digits bytes numeral)) within
 
--- the number of at most 19 digits is below 10 ^ 19, which 64 bits hold
-is_numeral-lt : (bytes : List ℕ) → is_numeral bytes ≡ true → value_from 0 bytes < 10 ^ 19
-is_numeral-lt bytes numeral =
-    digits_value_short own bytes 19 (is_numeral-digits bytes numeral) (search rules)
+-- the number of two runs of digits is that of the second behind that of the first
+value_from-append : (n : ℕ) (digits more : List ℕ)
+    → value_from n (digits ++ more) ≡ value_from (value_from n digits) more
+value_from-append n [] more = refl
+value_from-append n (digit ∷ digits) more =
+    value_from-append (10 * n + (digit - 48)) digits more
 
--- further digits make no number smaller
-le-value_from : (n : ℕ) (digits : List ℕ) → n ≤ value_from n digits
-le-value_from n [] = omega arith
-le-value_from n (digit ∷ digits) = omega (arith, le-value_from (10 * n + (digit - 48)) digits)
+-- the number of the digits so far and of the one that stands next
+pub value_from-take : (digits : List ℕ) (i : ℕ) → i < length digits
+    → value_from 0 (take (i + 1) digits)
+    ≡ 10 * value_from 0 (take i digits) + (get_or digits i 0 - 48)
+value_from-take digits i within =
+    ap (value_from 0) (take_more digits i 0 within) ∙ value_from-append 0 (take i digits) _
 
--- where the number so far leads to that of a numeral, one digit more keeps it below the bound
-pub next-lt : (n i : ℕ) (bytes : List ℕ) → is_numeral bytes ≡ true → i < length bytes
-    → value_from n (drop i bytes) ≡ value_from 0 bytes
-    → 10 * n + (get_or bytes i 0 - 48) < 10 ^ 19
-next-lt n i bytes numeral within same =
-    let next : ℕ = 10 * n + (get_or bytes i 0 - 48) in
-    let step : value_from n (drop i bytes) ≡ value_from next (drop (suc i) bytes) =
-    ap (value_from n) (drop-cons bytes i 0 within) in
-    omega (arith, step, le-value_from next (drop (suc i) bytes), is_numeral-lt bytes numeral)
+-- the number of up to 18 digits in front is below 10 ^ 18
+pub value_from-take-lt : (digits : List ℕ) (i : ℕ) → i ≤ 18
+    → list_all is_ascii_digit (take i digits) ≡ true → value_from 0 (take i digits) < 10 ^ 18
+value_from-take-lt digits i few are_digits =
+    let short : length (take i digits) ≤ 18 = omega (arith, length-take i digits) in
+    digits_value_short own (take i digits) 18 are_digits short

@@ -2,10 +2,8 @@
 //!
 //! Leading zeros are read, and `-0` is 0. A plus sign or a space makes a text that is no number.
 
-ghost use Rattle.std.specs.Prelude.{◌≡◌, IsTrue};
-ghost use Rattle.std.specs.List.{list_all};
-ghost use Rattle.std.specs.Char.{is_ascii_digit};
-ghost use Rattle.depot_cell.specs.Numbers.{int_of, is_numeral, minus_int, number_of, plain_int, value_from};
+ghost use Rattle.std.specs.Prelude.{◌≡◌};
+ghost use Rattle.depot_cell.specs.Numbers.{int_of, minus_int, number_of, plain_int};
 
 /// The most digits that are read. Nineteen always fit 64 bits.
 const MOST_DIGITS: usize = 19;
@@ -14,11 +12,17 @@ const MOST_DIGITS: usize = 19;
 pub fn read_number(bytes: &[u8]) -> Option<u64>
     ensures exact { result ≡ number_of bytes.now }
 {
-    if is_numeral(bytes) {
-        Some(value_of(bytes))
-    } else {
-        None
+    if bytes.is_empty() || bytes.len() > MOST_DIGITS {
+        return None;
     }
+    let mut value = 0;
+    for &byte in bytes {
+        if !byte.is_ascii_digit() {
+            return None;
+        }
+        value = 10 * value + u64::from(byte - b'0');
+    }
+    Some(value)
 }
 
 /// The int of its text. Takes no memory.
@@ -47,27 +51,4 @@ fn minus(digits: &[u8]) -> Option<i64>
         Some(value) if value <= 1 << 63 => Some(-(value as i128) as i64),
         _ => None,
     }
-}
-
-fn is_numeral(bytes: &[u8]) -> bool
-    ensures exact { result ≡ is_numeral bytes.now }
-{
-    !bytes.is_empty() && bytes.len() <= MOST_DIGITS && are_digits(bytes)
-}
-
-fn are_digits(bytes: &[u8]) -> bool
-    ensures exact { result ≡ list_all is_ascii_digit bytes.now }
-{
-    bytes.iter().all(|byte| byte.is_ascii_digit())
-}
-
-fn value_of(digits: &[u8]) -> u64
-    requires numeral { IsTrue (is_numeral digits.now) }
-    ensures exact { result ≡ value_from 0 digits.now }
-{
-    let mut value = 0;
-    for &digit in digits {
-        value = 10 * value + u64::from(digit - b'0');
-    }
-    value
 }

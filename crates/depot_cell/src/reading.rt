@@ -41,6 +41,10 @@ fn read_text(alloc: Global, bytes: &[u8]) -> Result<Cell, CellFault>
 fn is_text(bytes: &[u8]) -> bool
     ensures exact { result ≡ is_utf8 bytes.now }
 {
+    // Most texts are ASCII, and that is seen in fewer steps.
+    if bytes.is_ascii() {
+        return true;
+    }
     match str::from_utf8(bytes) {
         Ok(_) => true,
         Err(_) => false,
