@@ -3,8 +3,7 @@ use Rattle.std.specs.Prelude.{ℕ, ◌<◌, ◌≤◌, ◌≡◌, ◌^◌, List,
 use Rattle.std.specs.List.{AllZip, AllAdjacentBelow}
 use Rattle.depot_cell.specs.declared.cell.Cell.{Cell}
 use Rattle.depot_cell.specs.declared.cell.Cell.TheVariants as cell
-use Rattle.depot_cell.specs.declared.cell.Ty.{Ty}
-use Rattle.depot_cell.specs.declared.cell.Ty.TheVariants as ty
+use Rattle.depot_cell.specs.Cells.{ty_of}
 use Rattle.table_desc.specs.declared.table.Column.{Column}
 use Rattle.table_desc.specs.declared.table.Key.{Key}
 use Rattle.table_desc.specs.declared.delivery.DRow.{DRow}
@@ -24,11 +23,6 @@ delivery_of (entry.Install _ _) = None
 -- the accepted deliveries of a journal, in order
 abbrev pub accepted : List Entry → List DeliveryOf
 accepted journal = filter_map delivery_of journal
-
--- the type of a cell
-abbrev pub ty_of : Cell → Ty
-ty_of (cell.Int _) = ty.Int
-ty_of (cell.Text _) = ty.Text
 
 -- the tick that a time cell holds: an int that is not below 0
 abbrev pub tick_of : Option Cell → Option ℕ
