@@ -1,8 +1,11 @@
 -- The rows of a delivery's body: one for each record of the CSV text.
-use Rattle.std.specs.Prelude.{ℕ, ◌+◌, List, [], ◌∷◌, Option, Some, None, Bool, false, ◌&&◌, nat_eq, nat_lt, if◌then◌else◌, slice_get, option_and_then, option_map, position}
+use Rattle.std.specs.Prelude.{ℕ, ◌≡◌, ◌+◌, List, [], ◌∷◌, Option, Some, None, Bool, false, ◌&&◌, nat_eq, nat_lt, if◌then◌else◌, slice_get, option_and_then, option_map, position}
 use Rattle.std.specs.Result.{result_ok}
 use Rattle.std.specs.Str.{bytes_eq}
-use Rattle.csv.specs.Reading.{default_config, records, strip_bom}
+use Rattle.csv.specs.Reading.{Ready, default_config, reader_config, reader_state, reader_trim, records, source_of, strip_bom}
+use Rattle.csv.specs.declared.parser.State.TheVariants as st
+use Rattle.csv.specs.declared.reader.Reader.{Reader}
+use Rattle.csv.specs.declared.reader.Trim.TheVariants as trim
 use Rattle.depot_cell.specs.declared.cell.Cell.{Cell}
 use Rattle.depot_cell.specs.Reading.{cell_of}
 use Rattle.table_desc.specs.declared.table.Column.{Column}
@@ -68,6 +71,15 @@ rows_from desc feed number (fields ∷ others) =
 -- the records of a body, by the CSV reader with its default setup
 abbrev pub records_of : List ℕ → List (List (List ℕ))
 records_of body = records default_config (strip_bom body)
+
+-- the reader stands at the start of a body, with the default setup of CSV readers but no header
+pub record BeginsBody {R : Type 0} (rem : R → Option (List ℕ)) (body : List ℕ)
+    (reader : Reader R) : Type 0 where
+  pub plain : reader_trim reader ≡ trim.None
+  pub ready : Ready reader
+  pub config : reader_config reader ≡ default_config
+  pub state : reader_state reader ≡ st.StartRecord
+  pub source : source_of rem reader ≡ Some (strip_bom body)
 
 -- the rows of a body
 abbrev pub rows_of : DescOf → (feed : ℕ) → List ℕ → Option (List DRow)

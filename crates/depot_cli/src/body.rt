@@ -5,14 +5,15 @@
 
 ghost use Rattle.std.specs.Prelude.{◌≡◌, ◌≤◌, IfOk, Some, drop, length, option_map, slice_get};
 ghost use Rattle.std.specs.Result.{result_ok};
+ghost use Rattle.csv.specs.Reading.{reader_source};
 ghost use Rattle.csv.specs.Records.{fields_of};
 ghost use Rattle.depot_cell.specs.declared.cell.Cell.TheVariants.{Int};
 ghost use Rattle.depot_cell.specs.Reading.{cell_of};
 ghost use Rattle.table_desc.specs.Kinds.{kind_of};
 ghost use Rattle.view_meaning.specs.Journal.{row_tick, tick_of};
-ghost use Rattle.depot_cli.specs.Bodies.{cells_of, is_in_time, is_raw_of, raw_named, row_of, rows_of, table_cells};
+ghost use Rattle.depot_cli.specs.Bodies.{BeginsBody, cells_of, is_in_time, is_raw_of, raw_named, row_of, rows_of, table_cells};
 
-use csv::{ByteRecord, ReaderBuilder};
+use csv::{ByteRecord, Reader, ReaderBuilder};
 use depot_cell::{Cell, CellFault, Memory, Row, Ty, read_cell};
 use std::alloc::Global;
 use table_desc::{Column, DRow, Desc, END, Kind, Table};
@@ -29,10 +30,27 @@ pub fn read_rows(
     ensures exact { IfOk result (λ rows.
         option_map (λ rows. rows.items) rows ≡ rows_of desc.now feed body.now) }
 {
-    let mut reader = ReaderBuilder::new()
+    // The reader is moved into the function with the loop. Made beside the loop, its 16 KiB would
+    // be cleared for each body before they are filled.
+    let reader = ReaderBuilder::new()
         .has_headers(false)
         .flexible(true)
         .from_reader(alloc, body);
+    read_records(alloc, desc, feed, reader)
+}
+
+/// The rows of the records of a body, of which the reader has read nothing yet.
+fn read_records(
+    alloc: Global,
+    desc: &Desc,
+    feed: u16,
+    mut reader: Reader<&[u8]>,
+) -> Result<Option<Vec<DRow>>, Memory>
+    requires start { BeginsBody (λ text. Some text.now) (reader_source reader).now reader }
+    requires few { length (reader_source reader).now ≤ 16_777_216 }
+    ensures exact { IfOk result (λ rows. option_map (λ rows. rows.items) rows
+        ≡ rows_of desc.now feed (reader_source reader.entry).now) }
+{
     let mut fields = ByteRecord::new(alloc);
     let mut rows = Vec::new(alloc);
     for number in 1..u32::MAX {

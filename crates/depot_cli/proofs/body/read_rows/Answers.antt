@@ -1,51 +1,21 @@
-use Rattle.std.proofs.Common.{◌≡◌, ◌∙◌, ◌++◌, ◌∷◌, [], Some, ap, inr, arith}
-use Rattle.std.proofs.lemmas.Grind.{common_steps}
-use Rattle.csv.specs.Records.{fields_of}
-use Rattle.depot_cli.proofs.CsvRecords.{Yields-start}
-use Rattle.depot_cli.proofs.BodyLemmas.{ReadsRows-bad, ReadsRows-end, ReadsRows-more, ReadsRows-start}
+use Rattle.std.proofs.Common.{◌∙◌, ℕ, Bor, List, Some, ap, sym, inr}
+use Rattle.csv.specs.Reading.{strip_bom}
 use Rattle.depot_cli.proofs.body.read_rows.Goals as goal
 
-pub loop-number-init : goal.loop-number-init
-loop-number-init c =
+pub read_records-requires : goal.read_records-requires
+read_records-requires c =
     let made = c.from_reader-reader.ensures in
-    let yields = Yields-start _ c.from_reader-reader.result c.args.body.now
-    (rw (c.flexible.ensures, c.has_headers.ensures) at made.trim ∙ c.new.ensures.trim)
-    (inr (inr (rw (c.flexible.ensures, c.has_headers.ensures) at made.has_headers, made.headers)))
-    (rw (c.flexible.ensures, c.has_headers.ensures) at made.config ∙ c.new.ensures.config)
-    made.state made.source in
-    rw c.new-rows.ensures.items (ReadsRows-start _ _ _ _ _ yields)
-
-pub returns-in-Ok-false : goal.returns-in-Ok-false
-returns-in-Ok-false c =
-    let before = c.loop-number.invariant in
-    let read = rw c.in-Ok-false.field-0-test
-    at (c.in-Ok-false.ensures.reads before.yields.plain before.yields.ready) in
+    let plain = rw (c.flexible.ensures, c.has_headers.ensures) at made.trim in
+    let headless = rw (c.flexible.ensures, c.has_headers.ensures) at made.has_headers in
+    let config = rw (c.flexible.ensures, c.has_headers.ensures) at made.config in
     record {
-      exact = ap Some c.shrink_to_fit.ensures.items
-          ∙ ReadsRows-end _ _ _ _ c.loop-number.reader c.read_byte_record.new.self _ _
-          (fields_of c.read_byte_record.new.row) before read;
+      start = record {
+        plain = plain ∙ c.new.ensures.trim;
+        ready = inr (inr (headless, made.headers));
+        config = config ∙ c.new.ensures.config;
+        state = made.state;
+        source = made.source
+            ∙ ap (λ (text : Bor (List ℕ)). Some (strip_bom text.now)) (sym made.rdr);
+      };
+      few = rw made.rdr c.requires;
     }
-
-pub returns-in-None : goal.returns-in-None
-returns-in-None c =
-    let before = c.loop-number.invariant in
-    let read = rw c.in-Ok-true.field-0-test
-    at (c.in-Ok-true.ensures.reads before.yields.plain before.yields.ready) in
-    record {
-      exact = ReadsRows-bad _ _ _ _ c.loop-number.reader c.read_byte_record.new.self _ _
-          (fields_of c.read_byte_record.new.row) before read
-          (c.in-Ok-true.ensures.ready before.yields.plain)
-          (rw c.in-None.is at c.in_ok-row.ensures.exact);
-    }
-
-pub loop-number-preserved : goal.loop-number-preserved
-loop-number-preserved c =
-    let before = c.loop-number.invariant in
-    let read = rw c.in-Ok-true.field-0-test
-    at (c.in-Ok-true.ensures.reads before.yields.plain before.yields.ready) in
-    let pushed : c.push.new.self.items ≡ c.loop-number.rows.items ++ c.in-Some.row ∷ [] =
-    grind (arith, common_steps) in
-    rw pushed (ReadsRows-more _ _ _ _ c.loop-number.reader c.read_byte_record.new.self _ _
-    (fields_of c.read_byte_record.new.row) c.in-Some.row before read
-    (c.in-Ok-true.ensures.ready before.yields.plain)
-    (rw c.in-Some.is at c.in_ok-row.ensures.exact))
