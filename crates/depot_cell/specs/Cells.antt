@@ -1,4 +1,4 @@
--- Which cells there can be, their types, and how two of one type compare.
+-- Which cells there can be, their types, and how two of them compare.
 use Rattle.std.specs.Prelude.{Bool, FitsSigned}
 use Rattle.std.specs.Int.{w64}
 use Rattle.std.specs.declared.cmp.Ordering.{Ordering}

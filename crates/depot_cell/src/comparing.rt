@@ -1,7 +1,7 @@
 //! Conditions on cells.
 
 ghost use Rattle.std.specs.Prelude.{◌≡◌};
-ghost use Rattle.depot_cell.specs.Cells.{cell_cmp, passes, ty_of};
+ghost use Rattle.depot_cell.specs.Cells.{cell_cmp, passes};
 
 use crate::cell::{Cell, Op};
 use std::cmp::Ordering;
@@ -15,10 +15,9 @@ macro_rules! passes {
     };
 }
 
-/// Whether a condition holds of two cells of one type: ints by their value, texts by their bytes.
-/// Takes no memory.
+/// Whether a condition holds of two cells: ints by their value, texts by their bytes, and an int
+/// stands before each text. Takes no memory.
 pub fn holds(op: Op, left: &Cell, right: &Cell) -> bool
-    requires one_type { ty_of left.now ≡ ty_of right.now }
     ensures exact { result ≡ passes op (cell_cmp left.now right.now) }
 {
     let order = order_of(left, right);

@@ -11,6 +11,8 @@ use crate::short_text::Str;
 use std::alloc::Global;
 
 /// The cell of a type that bytes are. An int takes no memory, a text that of its bytes.
+// It is called for each field of each row that is loaded: a call of its own costs a tenth of that.
+#[inline(always)]
 pub fn read_cell(alloc: Global, ty: Ty, bytes: &[u8]) -> Result<Cell, CellFault>
     ensures exact { Gives result (cell_of ty bytes.now) }
 {
