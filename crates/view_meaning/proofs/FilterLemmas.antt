@@ -2,7 +2,8 @@
 -- where it passes exactly on a run of numbers.
 use Rattle.std.proofs.Common.{◌≡◌, ◌∙◌, ℕ, suc, zero, ◌+◌, ◌-◌, ◌<◌, ◌≤◌, List, [], ◌∷◌, ◌++◌, refl, ap, arith}
 use Rattle.std.specs.Prelude.{Bool, true, false, All}
-use Rattle.std.specs.List.{filter, range_with_len}
+use Rattle.std.specs.List.{filter, list_any, range_with_len}
+use Rattle.std.proofs.lemmas.Bool.{or_parts}
 use Rattle.std.proofs.lemmas.List.{append-nil}
 use Rattle.std.proofs.lemmas.List.Elements.{All-head, All-tail, filter-append}
 use Rattle.std.proofs.lemmas.List.FromFn.{length-range_with_len, get_or-range_with_len}
@@ -15,6 +16,14 @@ filter-none test (x ∷ xs) fails =
     rw (All-head (λ x. test x ≡ false) x xs fails)
     (filter-none test xs (All-tail (λ x. test x ≡ false) x xs fails))
 
+-- a test that finds no element keeps none
+pub filter-not_found : {X : Type 0} (test : X → Bool) (xs : List X) → list_any test xs ≡ false
+    → filter test xs ≡ []
+filter-not_found test [] found = refl
+filter-not_found test (x ∷ xs) found =
+    let parts = or_parts (test x) (list_any test xs) found in
+    rw parts.0 (filter-not_found test xs parts.1)
+
 -- a test that passes each element keeps all
 pub filter-all : {X : Type 0} (test : X → Bool) (xs : List X)
     → All (λ x. test x ≡ true) xs → filter test xs ≡ xs
@@ -24,7 +33,7 @@ filter-all test (x ∷ xs) passes =
     (ap (λ rest. x ∷ rest) (filter-all test xs (All-tail (λ x. test x ≡ true) x xs passes)))
 
 -- what is true of the numbers from one on is true of each of the run
-All-range_with_len : (P : ℕ → Type 0) (from many : ℕ)
+pub All-range_with_len : (P : ℕ → Type 0) (from many : ℕ)
     → ((number : ℕ) → from ≤ number → number < from + many → P number)
     → All P (range_with_len from many)
 All-range_with_len P from many each index default within =
@@ -33,7 +42,7 @@ All-range_with_len P from many each index default within =
     (each (from + index) (omega arith) (omega arith))
 
 -- a run of numbers is a shorter one and what follows it
-range_with_len-add : (from many more next : ℕ) → from + many ≡ next
+pub range_with_len-add : (from many more next : ℕ) → from + many ≡ next
     → range_with_len from (many + more) ≡ range_with_len from many ++ range_with_len next more
 range_with_len-add from zero more next follows =
     ap (λ (many : ℕ). range_with_len from many) (omega arith)

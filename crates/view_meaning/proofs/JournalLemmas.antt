@@ -12,8 +12,13 @@ pub accepted-map-Load : (deliveries : List DeliveryOf)
 accepted-map-Load [] = refl
 accepted-map-Load (delivery ∷ later) = ap (λ rest. delivery ∷ rest) (accepted-map-Load later)
 
+-- the deliveries of two journals are those of the first, then those of the second
+pub accepted-append : (journal more : List Entry)
+    → accepted (journal ++ more) ≡ accepted journal ++ accepted more
+accepted-append journal more = filter_map-append delivery_of journal more
+
 -- a load at the end of the journal adds its delivery at the end
 pub accepted-append-Load : (journal : List Entry) (delivery : DeliveryOf)
     → accepted (journal ++ entry.Load delivery ∷ []) ≡ accepted journal ++ delivery ∷ []
 accepted-append-Load journal delivery =
-    filter_map-append delivery_of journal (entry.Load delivery ∷ [])
+    accepted-append journal (entry.Load delivery ∷ [])

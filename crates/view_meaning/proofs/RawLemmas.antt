@@ -30,7 +30,7 @@ list_any-agree test other agree (x ∷ xs) =
     rw (agree x) (ap (λ (rest : Bool). other x || rest) (list_any-agree test other agree xs))
 
 -- the cells of two lists of rows are those of the first, then those of the second
-cells_where-append : (test : DRow → Bool) (rows more : List DRow)
+pub cells_where-append : (test : DRow → Bool) (rows more : List DRow)
     → cells_where test (rows ++ more) ≡ cells_where test rows ++ cells_where test more
 cells_where-append test rows more =
     ap (λ (passed : List DRow). map (λ (row : DRow). row.cells) passed)

@@ -1,6 +1,6 @@
 -- Journals: what was accepted, in order, and what of it fits a description.
-use Rattle.std.specs.Prelude.{ℕ, ◌<◌, ◌≤◌, ◌≡◌, ◌^◌, List, Option, Some, None, IsSomeAnd, slice_get, pos, negsuc, length, ⊤, All, filter_map}
-use Rattle.std.specs.List.{AllZip, AllAdjacentBelow}
+use Rattle.std.specs.Prelude.{ℕ, ◌<◌, ◌≤◌, ◌≡◌, ◌^◌, ◌==◌, ◌&&◌, Bool, List, Option, Some, None, IsSomeAnd, slice_get, pos, negsuc, length, ⊤, All, filter_map}
+use Rattle.std.specs.List.{AllZip, AllAdjacentBelow, list_any}
 use Rattle.depot_cell.specs.declared.cell.Cell.{Cell}
 use Rattle.depot_cell.specs.declared.cell.Cell.TheVariants as cell
 use Rattle.depot_cell.specs.Cells.{ty_of}
@@ -23,6 +23,14 @@ delivery_of (entry.Install _ _) = None
 -- the accepted deliveries of a journal, in order
 abbrev pub accepted : List Entry → List DeliveryOf
 accepted journal = filter_map delivery_of journal
+
+-- whether two deliveries are of one feed and number
+abbrev pub is_same : DeliveryOf → DeliveryOf → Bool
+is_same delivery other = (other.feed == delivery.feed) && (other.number == delivery.number)
+
+-- whether the feed of a delivery has accepted its number
+abbrev pub is_repeat : List Entry → DeliveryOf → Bool
+is_repeat journal delivery = list_any (is_same delivery) (accepted journal)
 
 -- the tick that a time cell holds: an int that is not below 0
 abbrev pub tick_of : Option Cell → Option ℕ

@@ -3,6 +3,13 @@ pub mod Journal
 pub mod SetAside
 pub mod RawValues
 pub mod TableRows
-pub mod Values
+pub mod Operations
 pub mod Versions
+pub mod Values
+pub mod Staleness
+pub mod LegalJournals
+pub mod Contents
+pub mod Drains
+pub mod Reached
+pub mod PartLists
 pub mod Shown

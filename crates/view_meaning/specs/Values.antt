@@ -1,11 +1,36 @@
 -- The value from scratch: what a partition's rows are by the accepted deliveries alone.
-use Rattle.std.specs.Prelude.{List}
+use Rattle.std.specs.Prelude.{ℕ, zero, suc, List, [], Option, Some, None, flat_map, slice_get, if◌then◌else◌}
 use Rattle.depot_cell.specs.declared.cell.Cell.{Cell}
 use Rattle.table_desc.specs.declared.table.Key.{Key}
+use Rattle.table_desc.specs.declared.view.Src.{Src}
 use Rattle.table_desc.specs.Deliveries.{DeliveryOf}
 use Rattle.table_desc.specs.Descriptions.{DescOf}
+use Rattle.table_desc.specs.Tables.{TableOf}
+use Rattle.view_meaning.specs.Partitions.{keys_read}
 use Rattle.view_meaning.specs.RawValues.{raw_value}
+use Rattle.view_meaning.specs.Operations.{operation}
+use Rattle.view_meaning.specs.Versions.{is_raw_kind}
 
--- the value of a partition. Only raw tables are computed yet: a view's partition has no rows.
+-- the rows of a source, joined in order of partition, where each partition has these rows
+abbrev pub joined : DescOf → (rows : Key → List (List Cell)) → (width part : ℕ) → Src
+    → List (List Cell)
+joined desc rows width part src = flat_map rows (keys_read desc width part src)
+
+-- the value of a partition of this table, where the partitions of earlier tables have these rows
+abbrev pub value_over : DescOf → List DeliveryOf → (rows : Key → List (List Cell)) → Key
+    → Option TableOf → List (List Cell)
+value_over desc accepted rows key None = []
+value_over desc accepted rows key (Some table) =
+    if is_raw_kind table.kind then raw_value desc accepted key
+    else operation table.kind (joined desc rows table.width key.part)
+
+-- the value of a partition, down through at most so many tables
+abbrev pub value_within : ℕ → DescOf → List DeliveryOf → Key → List (List Cell)
+value_within zero desc accepted key = []
+value_within (suc depth) desc accepted key =
+    value_over desc accepted (value_within depth desc accepted) key
+    (slice_get desc.tables key.table)
+
+-- the value of a partition: each source is an earlier table
 abbrev pub value : DescOf → List DeliveryOf → Key → List (List Cell)
-value desc accepted key = raw_value desc accepted key
+value desc accepted key = value_within (suc key.table) desc accepted key

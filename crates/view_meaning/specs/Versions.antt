@@ -1,5 +1,5 @@
 -- Versions: how often the rows of a partition have changed.
-use Rattle.std.specs.Prelude.{ℕ, ◌+◌, List, [], ◌∷◌, ◌++◌, Option, Some, None, Bool, true, false, ◌&&◌, ◌==◌, if◌then◌else◌, count_by, slice_get}
+use Rattle.std.specs.Prelude.{ℕ, ◌+◌, List, [], ◌∷◌, ◌++◌, Option, Some, None, Bool, true, false, ◌&&◌, ◌==◌, if◌then◌else◌, length, map, filter, fold, take, slice_get}
 use Rattle.std.specs.List.{list_any}
 use Rattle.table_desc.specs.declared.table.Key.{Key}
 use Rattle.table_desc.specs.Deliveries.{DeliveryOf}
@@ -8,6 +8,7 @@ use Rattle.table_desc.specs.Tables.{TableOf}
 use Rattle.table_desc.specs.KindValues.{KindOf, Raw, Filter, Group, Join}
 use Rattle.view_meaning.specs.declared.journal.Entry.{Entry}
 use Rattle.view_meaning.specs.declared.journal.Entry.TheVariants as entry
+use Rattle.view_meaning.specs.Partitions.{sources_of}
 use Rattle.view_meaning.specs.Journal.{accepted}
 use Rattle.view_meaning.specs.SetAside.{kept_rows}
 use Rattle.view_meaning.specs.RawValues.{lies_in}
@@ -34,6 +35,15 @@ installs key (entry.Load _) = false
 installs key (entry.Install installed _) =
     (installed.table == key.table) && (installed.part == key.part)
 
+-- the place of an install: how many entries its sources counted
+abbrev pub place_of : Entry → ℕ
+place_of (entry.Load _) = 0
+place_of (entry.Install _ at) = at
+
+-- the places of the installs of the partition, in order
+abbrev pub install_places : List Entry → Key → List ℕ
+install_places journal key = map place_of (filter (installs key) journal)
+
 -- whether a table is raw
 abbrev pub is_raw_kind : KindOf → Bool
 is_raw_kind (Raw _ _) = true
@@ -50,4 +60,16 @@ is_raw (Some table) = is_raw_kind table.kind
 abbrev pub version : DescOf → List Entry → Key → ℕ
 version desc journal key =
     if is_raw (slice_get desc.tables key.table) then raw_version desc (accepted journal) key
-    else count_by (installs key) journal
+    else length (install_places journal key)
+
+-- the place of the last install of the partition, or 0
+abbrev pub last_place : List Entry → Key → ℕ
+last_place journal key = fold (λ _ place. place) 0 (install_places journal key)
+
+-- the versions of the sources of the partition
+abbrev pub current : DescOf → List Entry → Key → List ℕ
+current desc journal key = map (version desc journal) (sources_of desc key)
+
+-- the versions that the sources had at the last install of the partition
+abbrev pub recorded : DescOf → List Entry → Key → List ℕ
+recorded desc journal key = current desc (take (last_place journal key) journal) key

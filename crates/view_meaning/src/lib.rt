@@ -6,14 +6,21 @@
 //! be read beside the definition. Faster programs above keep the same definitions.
 #![tactic(auto)]
 
+mod filtering;
 mod journal;
+mod laws;
 mod parts;
 mod plain;
+mod reached;
 mod request;
 #[cfg(test)]
 mod tests;
 
 pub use journal::{Entry, Loaded};
+pub use laws::{
+    drains_are_legal, drains_settle, reached_are_unsettled, settled_is_value, shown_is_content,
+};
 pub use parts::{Parts, plain_parts};
 pub use plain::{plain_value, plain_version};
+pub use reached::plain_reached;
 pub use request::{Item, Mark, PinItem};

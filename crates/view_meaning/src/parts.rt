@@ -1,10 +1,10 @@
 //! The partitions that share a tick with a span of ticks, by division.
 
-ghost use Rattle.std.specs.Prelude.{◌≡◌, ◌+◌, ◌≤◌};
+ghost use Rattle.std.specs.Prelude.{pos, ◌≡◌, ◌+◌, ◌*◌, ◌^◌, ◌≤◌, ◌+ℤ◌};
 ghost use Rattle.std.specs.List.{range_with_len};
-ghost use Rattle.view_meaning.specs.Partitions.{END, parts_met};
+ghost use Rattle.view_meaning.specs.Partitions.{END, parts_met, source_parts, tick_at_least};
 
-use table_desc::Width;
+use table_desc::{END, Span, Width};
 
 /// A run of partitions: the number of the first, and how many there are.
 #[derive(Clone, Copy, Debug, PartialEq, Eq)]
@@ -30,4 +30,28 @@ pub fn plain_parts(width: Width, from: u64, to: u64) -> Parts
         first,
         count: last - first + 1,
     }
+}
+
+/// The partitions of a source that a view's partition reads. Where the span ends before it begins,
+/// or lies behind time, there are none.
+pub(crate) fn parts_read(width: Width, source_width: Width, span: Span, part: u64) -> Parts
+    ensures exact { source_parts width source_width span part
+        ≡ range_with_len result.first result.count }
+    ensures within { result.first + result.count ≤ END }
+{
+    let from = tick_behind(width, u128::from(part), span.lo);
+    let to = tick_behind(width, u128::from(part) + 1, span.hi).min(u128::from(END));
+    if to <= from {
+        return Parts { first: 0, count: 0 };
+    }
+    plain_parts(source_width, from as u64, to as u64)
+}
+
+/// The tick so far behind the start of a partition, or the first one where it lies before time.
+fn tick_behind(width: Width, part: u128, offset: i64) -> u128
+    requires { part ≤ 2 ^ 64 }
+    ensures exact { result ≡ tick_at_least (pos (part * width) +ℤ offset) }
+{
+    let start = part * u128::from(width.ticks());
+    start.saturating_add_signed(i128::from(offset))
 }

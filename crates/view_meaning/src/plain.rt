@@ -1,21 +1,26 @@
 //! The definitions as programs: each answer is made anew from all accepted deliveries.
 
-ghost use Rattle.std.specs.Prelude.{◌≡◌, ◌++◌, slice_get, IfOk, OnOk};
-ghost use Rattle.std.specs.List.{list_any};
+ghost use Rattle.std.specs.Prelude.{◌≡◌, ◌+◌, ◌≤◌, ◌++◌, slice_get, IfOk, OnOk};
+ghost use Rattle.std.specs.List.{list_any, range_with_len};
 ghost use Rattle.std.specs.Option.{option_copied};
 ghost use Rattle.table_desc.specs.Kinds.{kind_of};
-ghost use Rattle.view_meaning.specs.Partitions.{is_covered};
+ghost use Rattle.view_meaning.specs.Partitions.{END, is_covered, source_parts, table_width};
 ghost use Rattle.view_meaning.specs.Journal.{tick_of, row_tick};
+ghost use Rattle.view_meaning.specs.RawValues.{raw_value};
 ghost use Rattle.view_meaning.specs.TableRows.{lies_in_table, cells_where};
-ghost use Rattle.view_meaning.specs.Values.{value};
+ghost use Rattle.view_meaning.specs.Values.{value, value_within};
 ghost use Rattle.view_meaning.specs.Versions.{raw_version};
 
+use crate::filtering::filter_rows;
+use crate::parts::{Parts, parts_read};
 use depot_cell::{Cell, Memory, Row, Rows, copy_row};
 use std::alloc::Global;
-use table_desc::{DRow, Delivery, Desc, END, Key, Kind, Table, Width};
+use table_desc::{DRow, Delivery, Desc, END, Key, Kind, Src, Table, Width};
 
-/// The rows of a raw table's partition, in order of acceptance, then of record. A key of no table
-/// or of a view has none.
+/// The rows of a partition. Of a raw table they are its rows, in order of acceptance, then of
+/// record; of a filter what it makes of the rows of its source. Groups and joins have no rows yet,
+/// and a key of no table has none. It goes over all accepted deliveries for each raw partition
+/// below, and again where a partition is read twice.
 pub fn plain_value(
     alloc: Global,
     desc: &Desc,
@@ -24,14 +29,7 @@ pub fn plain_value(
 ) -> Result<Rows, Memory>
     ensures exact { IfOk result (λ rows. rows ≡ value desc.now accepted.now key) }
 {
-    let mut rows = Rows::new(alloc);
-    let Some(table) = table_of(desc, key) else {
-        return Ok(rows);
-    };
-    for delivery in accepted {
-        push_rows(alloc, table, key, delivery, &mut rows)?;
-    }
-    Ok(rows)
+    value_within(alloc, desc, accepted, usize::from(key.table) + 1, key)
 }
 
 /// The version of a raw table's partition: how many accepted deliveries brought a row of it. Of a
@@ -40,7 +38,7 @@ pub fn plain_version(desc: &Desc, accepted: &[Delivery], key: Key) -> u64
     ensures exact { result ≡ raw_version desc.now accepted.now key }
 {
     let mut version = 0;
-    let Some(table) = table_of(desc, key) else {
+    let Some(table) = table_at(desc, key.table) else {
         return version;
     };
     for delivery in accepted {
@@ -51,11 +49,72 @@ pub fn plain_version(desc: &Desc, accepted: &[Delivery], key: Key) -> u64
     version
 }
 
-/// The table of a key.
-fn table_of(desc: &Desc, key: Key) -> Option<&Table>
-    ensures { option_copied result ≡ slice_get desc.now.tables key.table }
+/// The rows of a partition, down through at most so many tables.
+fn value_within(
+    alloc: Global,
+    desc: &Desc,
+    accepted: &[Delivery],
+    depth: usize,
+    key: Key,
+) -> Result<Rows, Memory>
+    ensures exact { IfOk result (λ rows. rows ≡ value_within depth desc.now accepted.now key) }
 {
-    desc.tables.get(usize::from(key.table))
+    if depth == 0 {
+        return Ok(Rows::new(alloc));
+    }
+    let Some(table) = table_at(desc, key.table) else {
+        return Ok(Rows::new(alloc));
+    };
+    match &table.kind {
+        Kind::Raw { .. } => raw_rows(alloc, desc, accepted, key),
+        Kind::Filter { src, conds, keep } => {
+            let mut rows = Rows::new(alloc);
+            let read = source_parts(desc, table.width, key.part, *src);
+            for part in read.first..read.first + read.count {
+                let source = Key {
+                    table: src.table,
+                    part,
+                };
+                let source_rows = value_within(alloc, desc, accepted, depth - 1, source)?;
+                filter_rows(alloc, conds, keep, &source_rows, &mut rows)?;
+            }
+            Ok(rows)
+        }
+        Kind::Group { .. } | Kind::Join { .. } => Ok(Rows::new(alloc)),
+    }
+}
+
+/// The rows of a raw table's partition, in order of acceptance, then of record.
+fn raw_rows(alloc: Global, desc: &Desc, accepted: &[Delivery], key: Key) -> Result<Rows, Memory>
+    ensures exact { IfOk result (λ rows. rows ≡ raw_value desc.now accepted.now key) }
+{
+    let mut rows = Rows::new(alloc);
+    let Some(table) = table_at(desc, key.table) else {
+        return Ok(rows);
+    };
+    for delivery in accepted {
+        push_rows(alloc, table, key, delivery, &mut rows)?;
+    }
+    Ok(rows)
+}
+
+/// The partitions of a source that a view's partition reads. A source that is no table has none.
+fn source_parts(desc: &Desc, width: Width, part: u64, src: Src) -> Parts
+    ensures exact { source_parts width (table_width desc.now src.table) src.span part
+        ≡ range_with_len result.first result.count }
+    ensures within { result.first + result.count ≤ END }
+{
+    match table_at(desc, src.table) {
+        Some(source) => parts_read(width, source.width, src.span, part),
+        None => Parts { first: 0, count: 0 },
+    }
+}
+
+/// The table with this number.
+fn table_at(desc: &Desc, table: u16) -> Option<&Table>
+    ensures { option_copied result ≡ slice_get desc.now.tables table }
+{
+    desc.tables.get(usize::from(table))
 }
 
 /// Puts copies of a delivery's rows that lie in the partition at the end. After an `Err` there
@@ -97,7 +156,7 @@ fn lies_in(table: &Table, key: Key, row: &DRow) -> bool
 }
 
 /// The tick of a row of a raw table. A row of a view has none.
-fn row_tick(kind: &Kind, row: &Row) -> Option<u64>
+pub(crate) fn row_tick(kind: &Kind, row: &Row) -> Option<u64>
     ensures { result ≡ row_tick (kind_of kind.now) row.now }
 {
     match kind {

@@ -3,7 +3,8 @@ use Rattle.view_meaning.proofs.PartitionLemmas.{parts_met-empty, parts_met-run}
 use Rattle.view_meaning.proofs.parts.plain_parts.Goals as goal
 
 pub returns-then-from-to-clause-exact : goal.returns-then-from-to-clause-exact
-returns-then-from-to-clause-exact c = rw c.if-from-to.true (parts_met-empty c.args.width c.args.to)
+returns-then-from-to-clause-exact c =
+    parts_met-empty c.args.width c.args.from c.args.to (omega (arith, c.if-from-to.true))
 
 pub returns-clause-exact : goal.returns-clause-exact
 returns-clause-exact c =

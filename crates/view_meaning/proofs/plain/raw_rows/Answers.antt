@@ -1,6 +1,6 @@
 use Rattle.std.proofs.Common.{sym, ◌∙◌}
 use Rattle.view_meaning.proofs.RawLemmas.{raw_value-more, raw_value-no_table}
-use Rattle.view_meaning.proofs.plain.plain_value.Goals as goal
+use Rattle.view_meaning.proofs.plain.raw_rows.Goals as goal
 
 pub returns-in_default : goal.returns-in_default
 returns-in_default c = record {

@@ -1,0 +1,265 @@
+-- The content of a version against the value from scratch: `settled_values`. Content, value and
+-- settledness go down through the tables alike, so they are compared within one depth.
+use Rattle.std.proofs.Common.{◌≡◌, ◌∙◌, ℕ, zero, suc, ◌+◌, List, [], ◌∷◌, ◌++◌, length, take, get_or, refl, sym, ap, map, inl, inr, arith}
+use Rattle.std.specs.Prelude.{Bool, true, false, not, Option, Some, None, All, flat_map, fold, slice_get, if◌then◌else◌}
+use Rattle.std.specs.List.{list_all}
+use Rattle.std.specs.Cmp.Lexicographic.{same_text}
+use Rattle.std.proofs.lemmas.Bool.{cases_Bool, and_parts, not-true, not-false}
+use Rattle.std.proofs.lemmas.List.{take_all}
+use Rattle.std.proofs.lemmas.List.Elements.{All-head, All-weaker}
+use Rattle.std.proofs.lemmas.List.Sums.{AllPass-from_list_all}
+use Rattle.depot_cell.specs.declared.cell.Cell.{Cell}
+use Rattle.table_desc.specs.declared.table.Key.{Key}
+use Rattle.table_desc.specs.declared.delivery.DRow.{DRow}
+use Rattle.table_desc.specs.declared.view.Src.{Src}
+use Rattle.table_desc.specs.Deliveries.{DeliveryOf}
+use Rattle.table_desc.specs.Descriptions.{DescOf}
+use Rattle.table_desc.specs.Tables.{TableOf}
+use Rattle.table_desc.specs.KindValues.{KindOf, Raw, Filter, Group, Join}
+use Rattle.view_meaning.specs.declared.journal.Entry.{Entry}
+use Rattle.view_meaning.specs.Partitions.{keys_read, kind_sources, sources_of, keys_below}
+use Rattle.view_meaning.specs.Journal.{accepted}
+use Rattle.view_meaning.specs.RawValues.{lies_in, raw_value}
+use Rattle.view_meaning.specs.TableRows.{cells_where}
+use Rattle.view_meaning.specs.SetAside.{kept_rows, kept_behind}
+use Rattle.view_meaning.specs.Operations.{operation, filtered}
+use Rattle.view_meaning.specs.Versions.{touches, loads_behind, raw_version, is_raw, is_raw_kind, version, install_places, last_place, current, recorded}
+use Rattle.view_meaning.specs.Values.{joined, value_over, value_within, value}
+use Rattle.view_meaning.specs.Staleness.{is_stale, is_settled_within}
+use Rattle.view_meaning.specs.Contents.{rows_kept, loads_kept, raw_content, install_content, view_content, content_over, content_within, HasSettledValues}
+use Rattle.view_meaning.proofs.FilterLemmas.{filter-not_found}
+use Rattle.view_meaning.proofs.RawLemmas.{cells_where-append, version-raw}
+use Rattle.view_meaning.proofs.SourceLemmas.{All-joined, All-map_agree, flat_map-agree, flat_map-none}
+use Rattle.view_meaning.proofs.VersionLemmas.{version-view}
+
+-- a list in front, where a test passes, makes the joined lists longer by it, or is empty
+flat_map-cons_if : {X : Type 0} (test : Bool) (first : List X) (rest : List (List X))
+    → (test ≡ false → first ≡ [])
+    → flat_map (λ xs. xs) (if test then first ∷ rest else rest)
+    ≡ first ++ flat_map (λ xs. xs) rest
+flat_map-cons_if true first rest none = refl
+flat_map-cons_if false first rest none = rw (none refl) refl
+
+-- an element in front, where a test passes, counts
+length-cons_if : {X : Type 0} (test : Bool) (first : X) (rest : List X)
+    → length (if test then first ∷ rest else rest) ≡ (if test then 1 else 0) + length rest
+length-cons_if true first rest = omega arith
+length-cons_if false first rest = omega arith
+
+-- there are rows of each delivery that keeps one in the partition
+pub length-loads_kept : (desc : DescOf) (key : Key) (before accepted : List DeliveryOf)
+    → length (loads_kept desc key before accepted) ≡ loads_behind desc key before accepted
+length-loads_kept desc key before [] = refl
+length-loads_kept desc key before (delivery ∷ later) =
+    length-cons_if (touches desc key before delivery) (rows_kept desc key before delivery)
+    (loads_kept desc key (before ++ delivery ∷ []) later)
+    ∙ ap (λ (count : ℕ). (if touches desc key before delivery then 1 else 0) + count)
+    (length-loads_kept desc key (before ++ delivery ∷ []) later)
+
+-- these rows are, one after the other, all kept rows of the partition
+flat_map-loads_kept : (desc : DescOf) (key : Key) (before accepted : List DeliveryOf)
+    → flat_map (λ rows. rows) (loads_kept desc key before accepted)
+    ≡ cells_where (lies_in desc key) (kept_behind desc before accepted)
+flat_map-loads_kept desc key before [] = refl
+flat_map-loads_kept desc key before (delivery ∷ later) =
+    flat_map-cons_if (touches desc key before delivery) (rows_kept desc key before delivery)
+    (loads_kept desc key (before ++ delivery ∷ []) later)
+    (λ untouched. ap (λ (rows : List DRow). map (λ (row : DRow). row.cells) rows)
+    (filter-not_found (lies_in desc key) (kept_rows desc before delivery) untouched))
+    ∙ ap (λ (rows : List (List Cell)). rows_kept desc key before delivery ++ rows)
+    (flat_map-loads_kept desc key (before ++ delivery ∷ []) later)
+    ∙ sym (cells_where-append (lies_in desc key) (kept_rows desc before delivery)
+    (kept_behind desc (before ++ delivery ∷ []) later))
+
+-- the content of the latest version of a raw partition is its value
+raw_content-raw_version : (desc : DescOf) (accepted : List DeliveryOf) (key : Key)
+    → raw_content desc accepted key (raw_version desc accepted key) ≡ raw_value desc accepted key
+raw_content-raw_version desc accepted key =
+    ap (λ (loads : List (List (List Cell))). flat_map (λ rows. rows) loads)
+    (take_all (raw_version desc accepted key) (loads_kept desc key [] accepted)
+    (omega (arith, length-loads_kept desc key [] accepted)))
+    ∙ flat_map-loads_kept desc key [] accepted
+
+-- an operation makes the same of sources with the same rows
+operation-agree : (kind : KindOf) (rows other : Src → List (List Cell))
+    → All (λ src. rows src ≡ other src) (kind_sources kind)
+    → operation kind rows ≡ operation kind other
+operation-agree (Raw _ _) rows other agree = refl
+operation-agree (Filter src conds keep) rows other agree =
+    ap (filtered conds keep) (All-head (λ src. rows src ≡ other src) src [] agree)
+operation-agree (Group _ _ _) rows other agree = refl
+operation-agree (Join _ _ _) rows other agree = refl
+
+-- an operation makes no rows of sources without rows
+operation-none : (kind : KindOf) (rows : Src → List (List Cell)) → ((src : Src) → rows src ≡ [])
+    → operation kind rows ≡ []
+operation-none (Raw _ _) rows none = refl
+operation-none (Filter src conds keep) rows none = ap (filtered conds keep) (none src)
+operation-none (Group _ _ _) rows none = refl
+operation-none (Join _ _ _) rows none = refl
+
+-- a table makes the same of source partitions with the same rows
+pub operation-joined : (desc : DescOf) (rows other : Key → List (List Cell)) (table : TableOf)
+    (part : ℕ)
+    → All (λ source. rows source ≡ other source) (keys_below desc part (Some table))
+    → operation table.kind (joined desc rows table.width part)
+    ≡ operation table.kind (joined desc other table.width part)
+operation-joined desc rows other table part agree =
+    operation-agree table.kind (joined desc rows table.width part)
+    (joined desc other table.width part)
+    (All-weaker (λ src. All (λ source. rows source ≡ other source)
+    (keys_read desc table.width part src))
+    (λ src. joined desc rows table.width part src ≡ joined desc other table.width part src)
+    (λ src same. flat_map-agree rows other (keys_read desc table.width part src) same)
+    (kind_sources table.kind)
+    (All-joined (λ source. rows source ≡ other source) (keys_read desc table.width part)
+    (kind_sources table.kind) agree))
+
+-- version 0 of a partition of this table is empty
+content_over-first : (desc : DescOf) (rows : Key → ℕ → List (List Cell)) (journal : List Entry)
+    (key : Key) (found : Option TableOf) → content_over desc rows journal key 0 found ≡ []
+content_over-first desc rows journal key None = refl
+content_over-first desc rows journal key (Some table) = elim (cases_Bool (is_raw_kind table.kind)) [
+  | inl raw ↦ rw raw refl
+  | inr view ↦ rw view refl
+]
+
+-- version 0 of each partition is empty
+pub content_within-first : (depth : ℕ) (desc : DescOf) (journal : List Entry) (key : Key)
+    → content_within depth desc journal key 0 ≡ []
+content_within-first zero desc journal key = refl
+content_within-first (suc depth) desc journal key =
+    content_over-first desc (content_within depth desc journal) journal key
+    (slice_get desc.tables key.table)
+
+-- before any entry each partition has version 0
+version-no_entry : (desc : DescOf) (key : Key) → version desc [] key ≡ 0
+version-no_entry desc key = elim (cases_Bool (is_raw (slice_get desc.tables key.table))) [
+  | inl raw ↦ rw raw refl
+  | inr view ↦ rw view refl
+]
+
+-- an install that counts no entry reads version 0 of each source, and makes nothing
+install_content-no_entry : (desc : DescOf) (rows : Key → ℕ → List (List Cell))
+    (journal : List Entry) (key : Key) (table : TableOf) → ((source : Key) → rows source 0 ≡ [])
+    → install_content desc rows journal key table 0 ≡ []
+install_content-no_entry desc rows journal key table first =
+    operation-none table.kind
+    (joined desc (λ source. rows source (version desc [] source)) table.width key.part)
+    (λ src. flat_map-none (λ source. rows source (version desc [] source))
+    (keys_read desc table.width key.part src)
+    (λ source. ap (rows source) (version-no_entry desc source) ∙ first source))
+
+-- the last of some numbers is what a fold that keeps the newest ends in
+get_or-last : (first : ℕ) (later : List ℕ)
+    → get_or (first ∷ later) (length later) 0 ≡ fold (λ _ number. number) first later
+get_or-last first [] = refl
+get_or-last first (next ∷ later) = get_or-last next later
+
+-- the latest version of a view's partition is what an install made that counted as many entries as
+-- the last one, also where there was none
+view_content-latest : (desc : DescOf) (rows : Key → ℕ → List (List Cell)) (journal : List Entry)
+    (key : Key) (table : TableOf) → ((source : Key) → rows source 0 ≡ [])
+    → view_content desc rows journal key table (length (install_places journal key))
+    ≡ install_content desc rows journal key table (last_place journal key)
+view_content-latest desc rows journal key table first = at_places (install_places journal key) refl
+  where
+    made : (at : ℕ) → List (List Cell)
+    made at = install_content desc rows journal key table at
+
+    at_places : (places : List ℕ) → install_places journal key ≡ places
+        → view_content desc rows journal key table (length (install_places journal key))
+        ≡ install_content desc rows journal key table (last_place journal key)
+    at_places [] none =
+        ap (λ (places : List ℕ). view_content desc rows journal key table (length places)) none
+        ∙ sym (install_content-no_entry desc rows journal key table first)
+        ∙ ap (λ (places : List ℕ). made (fold (λ _ place. place) 0 places)) (sym none)
+    at_places (place ∷ later) some =
+        ap (λ (places : List ℕ). view_content desc rows journal key table (length places)) some
+        ∙ ap (λ (places : List ℕ). made (get_or places (length later) 0)) some
+        ∙ ap made (get_or-last place later)
+        ∙ ap (λ (places : List ℕ). made (fold (λ _ place. place) 0 places)) (sym some)
+
+-- where a partition is not stale, its sources have the versions that its last install saw
+versions-seen : (desc : DescOf) (journal : List Entry) (key : Key)
+    → is_stale desc journal key ≡ false
+    → All (λ source. version desc (take (last_place journal key) journal) source
+    ≡ version desc journal source) (sources_of desc key)
+versions-seen desc journal key fresh =
+    All-map_agree (version desc (take (last_place journal key) journal)) (version desc journal)
+    (sources_of desc key)
+    (same_text (recorded desc journal key) (current desc journal key) (sym (not-false _ fresh)))
+
+-- the latest version of a partition holds its value, where the versions of the sources that its
+-- last install read hold theirs
+pub content_over-version : (desc : DescOf) (rows : Key → ℕ → List (List Cell))
+    (other : Key → List (List Cell)) (journal : List Entry) (key : Key) (found : Option TableOf)
+    → slice_get desc.tables key.table ≡ found → ((source : Key) → rows source 0 ≡ [])
+    → All (λ source. rows source (version desc (take (last_place journal key) journal) source)
+    ≡ other source) (keys_below desc key.part found)
+    → content_over desc rows journal key (version desc journal key) found
+    ≡ value_over desc (accepted journal) other key found
+content_over-version desc rows other journal key None is_found first read = refl
+content_over-version desc rows other journal key (Some table) is_found first read =
+    elim (cases_Bool (is_raw_kind table.kind)) [
+      | inl raw ↦ rw raw
+          (ap (raw_content desc (accepted journal) key)
+          (version-raw desc journal key (ap is_raw is_found ∙ raw))
+          ∙ raw_content-raw_version desc (accepted journal) key)
+      | inr view ↦ rw view
+          (ap (view_content desc rows journal key table)
+          (version-view desc journal key (ap is_raw is_found ∙ view))
+          ∙ view_content-latest desc rows journal key table first
+          ∙ operation-joined desc
+          (λ source. rows source (version desc (take (last_place journal key) journal) source))
+          other table key.part read)
+    ]
+
+-- the latest version of a partition that is settled holds its value, down through any number of
+-- tables
+pub content_within-version : (depth : ℕ) (desc : DescOf) (journal : List Entry) (key : Key)
+    → is_settled_within depth desc journal key ≡ true
+    → content_within depth desc journal key (version desc journal key)
+    ≡ value_within depth desc (accepted journal) key
+content_within-version zero desc journal key settled = refl
+content_within-version (suc depth) desc journal key settled =
+    let parts = and_parts (not (is_stale desc journal key))
+    (list_all (is_settled_within depth desc journal) (sources_of desc key)) settled in
+    let seen = versions-seen desc journal key (not-true (is_stale desc journal key) parts.0) in
+    let below = AllPass-from_list_all (is_settled_within depth desc journal) (sources_of desc key)
+    parts.1 in
+    content_over-version desc (content_within depth desc journal)
+    (value_within depth desc (accepted journal)) journal key (slice_get desc.tables key.table) refl
+    (content_within-first depth desc journal)
+    (λ index default within.
+    let source = get_or (sources_of desc key) index default in
+    ap (content_within depth desc journal source) (seen index default within)
+    ∙ content_within-version depth desc journal source (below index default within))
+
+-- where a partition is settled, its latest version holds its value
+pub settled_values : HasSettledValues
+settled_values desc journal key settled =
+    content_within-version (suc key.table) desc journal key settled
+
+-- a table has no rows where nothing was accepted and those below it have none
+value_over-nothing : (desc : DescOf) (rows : Key → List (List Cell)) (key : Key)
+    (found : Option TableOf) → ((source : Key) → rows source ≡ [])
+    → value_over desc [] rows key found ≡ []
+value_over-nothing desc rows key None none = refl
+value_over-nothing desc rows key (Some table) none = elim (cases_Bool (is_raw_kind table.kind)) [
+  | inl raw ↦ rw raw refl
+  | inr view ↦ rw view (operation-none table.kind (joined desc rows table.width key.part)
+      (λ src. flat_map-none rows (keys_read desc table.width key.part src) none))
+]
+
+-- nor has any partition
+value_within-nothing : (depth : ℕ) (desc : DescOf) (key : Key)
+    → value_within depth desc [] key ≡ []
+value_within-nothing zero desc key = refl
+value_within-nothing (suc depth) desc key =
+    value_over-nothing desc (value_within depth desc []) key (slice_get desc.tables key.table)
+    (λ source. value_within-nothing depth desc source)
+
+-- where nothing was accepted no partition has rows
+pub value-nothing : (desc : DescOf) (key : Key) → value desc [] key ≡ []
+value-nothing desc key = value_within-nothing (suc key.table) desc key

@@ -1,0 +1,196 @@
+-- The lists of reached partitions' numbers, as the program that computes them makes one after the
+-- other, and the keys that it tells of them.
+use Rattle.std.proofs.Common.{◌≡◌, ◌∙◌, ℕ, ◌+◌, ◌<◌, List, [], ◌∷◌, ◌++◌, length, map, cond, refl, ap, sym, arith, ⊎_elim}
+use Rattle.std.specs.Prelude.{Bool, true, false, ◌&&◌, ◌||◌, Option, Some, All, flat_map, max, min, slice_get, if◌then◌else◌}
+use Rattle.std.specs.List.{filter, list_any, range_with_len}
+use Rattle.std.specs.List.Sorted.{IsStrictlyIncreasing}
+use Rattle.std.proofs.lemmas.Bool.{and_parts, and_from, cases_lt, false≢true, ltb-true}
+use Rattle.std.proofs.lemmas.List.{append-nil, get_or_append_left, get_or_past, length-append}
+use Rattle.std.proofs.lemmas.List.Concat.{flat_map-append}
+use Rattle.std.proofs.lemmas.List.Elements.{filter-append}
+use Rattle.std.proofs.lemmas.List.Kept.{AllPairs-filter, AllPairs-from_increasing}
+use Rattle.std.proofs.Math.Seq.{get_or-append_seam}
+use Rattle.table_desc.specs.declared.table.Key.{Key}
+use Rattle.table_desc.specs.Deliveries.{DeliveryOf}
+use Rattle.table_desc.specs.Descriptions.{DescOf}
+use Rattle.table_desc.specs.Tables.{TableOf}
+use Rattle.view_meaning.specs.Partitions.{END, HasAlignedSources, HasEarlierSources, all_parts, end_of, is_met, keys_below, sources_of, start_of, table_width, width_of}
+use Rattle.view_meaning.specs.Versions.{is_raw_kind}
+use Rattle.view_meaning.specs.Drains.{view_keys}
+use Rattle.view_meaning.specs.Reached.{brings, is_reached, reached}
+use Rattle.view_meaning.specs.PartLists.{AllReached, AreInTime, AreUpTo, Gains, has, is_listed, key_of, keys_of_view, reached_of}
+use Rattle.view_meaning.proofs.BoolLemmas.{same-answer}
+use Rattle.view_meaning.proofs.FilterLemmas.{range_with_len-add}
+use Rattle.view_meaning.proofs.KeyLemmas.{AllPairs-all_parts}
+use Rattle.view_meaning.proofs.NumberLemmas.{has-filter, rising-same}
+use Rattle.view_meaning.proofs.PartListLemmas.{has-parts_met}
+use Rattle.view_meaning.proofs.ReachedLemmas.{is_part-is_reached, is_reached-step}
+use Rattle.view_meaning.proofs.SourceLemmas.{All-follow, list_any-agree, sources_of-earlier}
+
+-- a partition that shares a tick with time begins in it
+start-is_part : (width part : ℕ) → is_met width 0 END part ≡ true → start_of width part < END
+start-is_part width part met =
+    let shared = ltb-true (max (start_of width part) 0) (min (end_of width part) END) met in
+    omega arith
+
+-- listed numbers of reached partitions are of partitions that begin in time
+pub AreInTime-AllReached : (desc : DescOf) (deliveries : List DeliveryOf) (lists : List (List ℕ))
+    → HasEarlierSources desc → HasAlignedSources desc → AllReached desc deliveries lists
+    → AreInTime desc lists
+AreInTime-AllReached desc deliveries lists earlier aligned reached key listed = ⊎_elim
+    (λ below. start-is_part (table_width desc key.table) key.part
+    (is_part-is_reached desc deliveries key earlier aligned
+    (sym (reached key.table key.part below) ∙ listed)))
+    (λ behind. absurd (false≢true
+    (ap (λ (parts : List ℕ). has parts key.part) (sym (get_or_past lists key.table [] behind))
+    ∙ listed)))
+    (cases_lt key.table (length lists))
+
+-- the numbers brought of a table, with those that read listed ones, are those reached of it
+pub has-reached : (desc : DescOf) (deliveries : List DeliveryOf) (lists : List (List ℕ))
+    (number : ℕ) (table : TableOf) (brought gained : List ℕ)
+    → HasEarlierSources desc → slice_get desc.tables number ≡ Some table → number ≡ length lists
+    → AllReached desc deliveries lists
+    → ((part : ℕ) → has brought part ≡ list_any (brings (key_of number part) desc) deliveries)
+    → Gains (λ part. list_any (is_listed lists) (keys_below desc part (Some table))) brought gained
+    → (part : ℕ) → has gained part ≡ is_reached desc deliveries (key_of number part)
+has-reached desc deliveries lists number table brought gained earlier there next reached own
+    gains part =
+    let key = key_of number part in
+    let brought_any = list_any (brings key desc) deliveries in
+    let same : All (λ source. is_listed lists source ≡ is_reached desc deliveries source)
+    (sources_of desc key) =
+    All-follow (λ (source : Key). source.table < number)
+    (λ source. is_listed lists source ≡ is_reached desc deliveries source)
+    (λ source before. reached source.table source.part (omega arith)) (sources_of desc key)
+    (sources_of-earlier desc key earlier) in
+    gains part
+    ∙ ap (λ (had : Bool). had || list_any (is_listed lists) (keys_below desc part (Some table)))
+    (own part)
+    ∙ ap (λ (found : Option TableOf).
+    brought_any || list_any (is_listed lists) (keys_below desc part found)) (sym there)
+    ∙ ap (λ (above : Bool). brought_any || above)
+    (list_any-agree (is_listed lists) (is_reached desc deliveries) (sources_of desc key) same)
+    ∙ sym (is_reached-step desc deliveries key earlier)
+
+-- one list more
+pub AllReached-more : (desc : DescOf) (deliveries : List DeliveryOf) (lists : List (List ℕ))
+    (parts : List ℕ) → AllReached desc deliveries lists
+    → ((part : ℕ) → has parts part ≡ is_reached desc deliveries (key_of (length lists) part))
+    → AllReached desc deliveries (lists ++ parts ∷ [])
+AllReached-more desc deliveries lists parts reached own table part within = ⊎_elim
+    (λ below. ap (λ (parts : List ℕ). has parts part)
+    (get_or_append_left lists (parts ∷ []) [] table below) ∙ reached table part below)
+    (λ behind. let last : table ≡ length lists = omega (arith, length-append lists (parts ∷ [])) in
+    rw last (ap (λ (parts : List ℕ). has parts part) (get_or-append_seam lists parts [] [])
+    ∙ own part))
+    (cases_lt table (length lists))
+
+-- a partition is among all of a table just where it shares a tick with time
+has-all_parts : (width part : ℕ) → has (all_parts width) part ≡ is_met width 0 END part
+unfolding all_parts
+has-all_parts width part = has-parts_met width 0 END part
+
+-- a test of mapped elements keeps the images of those whose images pass
+filter-map : {X Y : Type 0} (test : Y → Bool) (f : X → Y) (xs : List X)
+    → filter test (map f xs) ≡ map f (filter (λ x. test (f x)) xs)
+filter-map test f [] = refl
+filter-map test f (x ∷ xs) =
+    rw (filter-map test f xs) (each (test (f x)))
+  where
+    each : (passes : Bool)
+        → cond passes (f x ∷ map f (filter (λ x. test (f x)) xs))
+        (map f (filter (λ x. test (f x)) xs))
+        ≡ map f (cond passes (x ∷ filter (λ x. test (f x)) xs) (filter (λ x. test (f x)) xs))
+    each true = refl
+    each false = refl
+
+-- a test keeps of joined lists what it keeps of each
+filter-flat_map : {X Y : Type 0} (test : Y → Bool) (f : X → List Y) (xs : List X)
+    → filter test (flat_map f xs) ≡ flat_map (λ x. filter test (f x)) xs
+filter-flat_map test f [] = refl
+filter-flat_map test f (x ∷ xs) =
+    filter-append test (f x) (flat_map f xs)
+    ∙ ap (λ rest. filter test (f x) ++ rest) (filter-flat_map test f xs)
+
+-- the keys told of a view are those of its partitions that are reached
+pub keys_of_view-reached : (desc : DescOf) (deliveries : List DeliveryOf) (number : ℕ)
+    (table : TableOf) (parts : List ℕ) → HasEarlierSources desc → HasAlignedSources desc
+    → slice_get desc.tables number ≡ Some table → IsStrictlyIncreasing parts
+    → ((part : ℕ) → has parts part ≡ is_reached desc deliveries (key_of number part))
+    → keys_of_view number table.kind parts ≡ reached_of desc deliveries number
+keys_of_view-reached desc deliveries number table parts earlier aligned there rising exact =
+    at_kind (is_raw_kind table.kind)
+    ∙ ap (λ (found : Option TableOf). filter (is_reached desc deliveries) (view_keys number found))
+    (sym there)
+  where
+    test : ℕ → Bool
+    test part = is_reached desc deliveries (key_of number part)
+
+    in_time : (part : ℕ) → test part ≡ true → has (all_parts table.width) part ≡ true
+    in_time part passes =
+        has-all_parts table.width part
+        ∙ ap (λ (found : Option TableOf). is_met (width_of found) 0 END part) (sym there)
+        ∙ is_part-is_reached desc deliveries (key_of number part) earlier aligned passes
+
+    same : parts ≡ filter test (all_parts table.width)
+    same = rising-same parts (filter test (all_parts table.width))
+        (AllPairs-from_increasing parts rising)
+        (AllPairs-filter (λ x y. x < y) test (all_parts table.width)
+        (AllPairs-all_parts table.width))
+        (λ part. exact part
+        ∙ same-answer (test part) (test part && has (all_parts table.width) part)
+        (λ passes. and_from (test part) (has (all_parts table.width) part) passes
+        (in_time part passes))
+        (λ both. (and_parts (test part) (has (all_parts table.width) part) both).0)
+        ∙ sym (has-filter test (all_parts table.width) part))
+
+    at_kind : (raw : Bool) → (if raw then [] else map (key_of number) parts)
+        ≡ filter (is_reached desc deliveries)
+        (if raw then [] else map (key_of number) (all_parts table.width))
+    at_kind true = refl
+    at_kind false = ap (λ (parts : List ℕ). map (key_of number) parts) same
+        ∙ sym (filter-map (is_reached desc deliveries) (key_of number) (all_parts table.width))
+
+-- the keys of the tables up to one are those of the tables before it, then those of that one
+pub reached_of-more : (desc : DescOf) (deliveries : List DeliveryOf) (number : ℕ)
+    → flat_map (reached_of desc deliveries) (range_with_len 0 (number + 1))
+    ≡ flat_map (reached_of desc deliveries) (range_with_len 0 number)
+    ++ reached_of desc deliveries number
+reached_of-more desc deliveries number =
+    let keys = reached_of desc deliveries in
+    ap (λ (numbers : List ℕ). flat_map keys numbers)
+    (range_with_len-add 0 number 1 number (omega arith))
+    ∙ flat_map-append keys (range_with_len 0 number) (number ∷ [])
+    ∙ ap (λ (last : List Key). flat_map keys (range_with_len 0 number) ++ last)
+    (append-nil (keys number))
+
+-- the keys of all tables are all keys that are reached
+pub reached_of-all : (desc : DescOf) (deliveries : List DeliveryOf)
+    → flat_map (reached_of desc deliveries) (range_with_len 0 (length desc.tables))
+    ≡ reached desc deliveries
+reached_of-all desc deliveries =
+    sym (filter-flat_map (is_reached desc deliveries)
+    (λ number. view_keys number (slice_get desc.tables number))
+    (range_with_len 0 (length desc.tables)))
+
+-- one table more
+pub AreUpTo-more : (desc : DescOf) (deliveries : List DeliveryOf) (lists : List (List ℕ))
+    (keys : List Key) (number : ℕ) (table : TableOf) (parts : List ℕ)
+    → HasEarlierSources desc → HasAlignedSources desc
+    → slice_get desc.tables number ≡ Some table → number ≡ length lists → IsStrictlyIncreasing parts
+    → ((part : ℕ) → has parts part ≡ is_reached desc deliveries (key_of number part))
+    → AreUpTo desc deliveries lists keys
+    → AreUpTo desc deliveries (lists ++ parts ∷ []) (keys ++ keys_of_view number table.kind parts)
+AreUpTo-more desc deliveries lists keys number table parts earlier aligned there next rising exact
+    up_to = record {
+      listed = AllReached-more desc deliveries lists parts up_to.listed (rw next at exact);
+      told = ap (λ (own : List Key). keys ++ own)
+          (keys_of_view-reached desc deliveries number table parts earlier aligned there rising
+          exact)
+          ∙ ap (λ (before : List Key). before ++ reached_of desc deliveries number)
+          (rw (← next) at up_to.told)
+          ∙ sym (reached_of-more desc deliveries number)
+          ∙ ap (λ (many : ℕ). flat_map (reached_of desc deliveries) (range_with_len 0 many))
+          (omega (arith, length-append lists (parts ∷ [])));
+    }

@@ -1,0 +1,240 @@
+-- What loads at the end of a journal leave unsettled: where all was settled before, just the
+-- partitions of views that they reach.
+use Rattle.std.proofs.Common.{◌≡◌, ◌∙◌, ℕ, zero, suc, ◌+◌, ◌<◌, ◌≤◌, List, [], ◌∷◌, ◌++◌, length, get_or, map, filter, cond, refl, ap, sym, inl, inr, arith}
+use Rattle.std.specs.Prelude.{Bool, true, false, not, ◌&&◌, ◌||◌, ◌==◌, Option, Some, None, All, nat_eq, slice_get, if◌then◌else◌}
+use Rattle.std.specs.List.{list_all, list_any}
+use Rattle.std.specs.Cmp.Lexicographic.{pointwise}
+use Rattle.std.proofs.lemmas.Bool.{and_right, cases_Bool, eq-eqb, ne_eqb, false≢true}
+use Rattle.std.proofs.lemmas.List.{append-nil, append_assoc}
+use Rattle.std.proofs.lemmas.List.Elements.{All-head, All-tail}
+use Rattle.table_desc.specs.declared.table.Key.{Key}
+use Rattle.table_desc.specs.declared.delivery.DRow.{DRow}
+use Rattle.table_desc.specs.Deliveries.{DeliveryOf}
+use Rattle.table_desc.specs.Descriptions.{DescOf}
+use Rattle.table_desc.specs.Tables.{TableOf}
+use Rattle.table_desc.specs.KindValues.{KindOf, Raw, Filter, Group, Join}
+use Rattle.view_meaning.specs.declared.journal.Entry.{Entry}
+use Rattle.view_meaning.specs.declared.journal.Entry.TheVariants as entry
+use Rattle.view_meaning.specs.Partitions.{HasEarlierSources, is_part, sources_of}
+use Rattle.view_meaning.specs.Journal.{accepted, row_tick}
+use Rattle.view_meaning.specs.RawValues.{covers_tick, holds_cells, lies_in}
+use Rattle.view_meaning.specs.Versions.{install_places, is_raw, is_raw_kind, raw_version, version, current, recorded}
+use Rattle.view_meaning.specs.Staleness.{is_stale, is_settled}
+use Rattle.view_meaning.specs.LegalJournals.{IsLegal}
+use Rattle.view_meaning.specs.Drains.{all_view_keys, unsettled}
+use Rattle.view_meaning.specs.Reached.{brings, is_reached, reached}
+use Rattle.view_meaning.proofs.JournalLemmas.{accepted-append, accepted-map-Load}
+use Rattle.view_meaning.proofs.KeyLemmas.{all_view_keys-not_raw, all_view_keys-parts, sources_of-parts}
+use Rattle.view_meaning.proofs.LegalLemmas.{last_place-le}
+use Rattle.view_meaning.proofs.RawLemmas.{raw_version-append, version-raw}
+use Rattle.view_meaning.proofs.ReachedLemmas.{brings-none, is_reached-step}
+use Rattle.view_meaning.proofs.SettledLemmas.{is_settled-step, is_stale-settled, recorded-current}
+use Rattle.view_meaning.proofs.SourceLemmas.{list_all-agree, sources_of-earlier}
+use Rattle.view_meaning.proofs.VersionLemmas.{install_places-stay, raw_version-le, recorded-stay, version-view}
+
+-- a test that is turned round twice is the test
+not_not : (test : Bool) → not (not test) ≡ test
+not_not true = refl
+not_not false = refl
+
+-- neither of two tests passes where not one of them does
+not-or : (test other : Bool) → (not test && not other) ≡ not (test || other)
+not-or true other = refl
+not-or false other = refl
+
+-- all elements pass a test where none passes the test turned round
+list_all-not : {X : Type 0} (test : X → Bool) (xs : List X)
+    → list_all (λ x. not (test x)) xs ≡ not (list_any test xs)
+list_all-not test [] = refl
+list_all-not test (x ∷ xs) =
+    ap (λ (rest : Bool). not (test x) && rest) (list_all-not test xs)
+    ∙ not-or (test x) (list_any test xs)
+
+-- all elements pass two tests where all pass each
+list_all-and : {X : Type 0} (test other : X → Bool) (xs : List X)
+    → (list_all test xs && list_all other xs) ≡ list_all (λ x. test x && other x) xs
+list_all-and test other [] = refl
+list_all-and test other (x ∷ xs) =
+    crossed (test x) (list_all test xs) (other x) (list_all other xs)
+    ∙ ap (λ (rest : Bool). (test x && other x) && rest) (list_all-and test other xs)
+  where
+    crossed : (first rest second last : Bool)
+        → ((first && rest) && (second && last)) ≡ ((first && second) && (rest && last))
+    crossed false rest second last = refl
+    crossed true false false last = refl
+    crossed true false true last = refl
+    crossed true true second last = refl
+
+-- two lists of numbers that are made of one are the same where each pair is
+pointwise-map : {X : Type 0} (f g : X → ℕ) (xs : List X)
+    → pointwise nat_eq (map f xs) (map g xs) ≡ list_all (λ x. nat_eq (f x) (g x)) xs
+pointwise-map f g [] = refl
+pointwise-map f g (x ∷ xs) =
+    ap (λ (rest : Bool). nat_eq (f x) (g x) && rest) (pointwise-map f g xs)
+
+-- two tests that agree on each element keep the same ones
+filter-agree : {X : Type 0} (test other : X → Bool) (xs : List X)
+    → All (λ x. test x ≡ other x) xs → filter test xs ≡ filter other xs
+filter-agree test other [] agree = refl
+filter-agree test other (x ∷ xs) agree =
+    rw (All-head (λ x. test x ≡ other x) x xs agree)
+    (ap (λ rest. cond (other x) (x ∷ rest) rest)
+    (filter-agree test other xs (All-tail (λ x. test x ≡ other x) x xs agree)))
+
+-- a journal with these deliveries loaded at its end
+abbrev with_loads : List Entry → List DeliveryOf → List Entry
+with_loads journal deliveries = journal ++ map entry.Load deliveries
+
+-- loads install nothing
+install_places-Load : (deliveries : List DeliveryOf) (key : Key)
+    → install_places (map entry.Load deliveries) key ≡ []
+install_places-Load [] key = refl
+install_places-Load (delivery ∷ later) key = install_places-Load later key
+
+-- a row lies in no partition of a view
+lies_in-not_raw : (desc : DescOf) (key : Key) (row : DRow)
+    → is_raw (slice_get desc.tables key.table) ≡ false → lies_in desc key row ≡ false
+lies_in-not_raw desc key row view =
+    let found = slice_get desc.tables key.table in
+    and_right (row.table == key.table) (holds_cells found key.part row.cells)
+    (at_table found view)
+  where
+    at_kind : (width : ℕ) (kind : KindOf) → is_raw_kind kind ≡ false
+        → covers_tick width key.part (row_tick kind row.cells) ≡ false
+    at_kind width (Raw feed time) view = absurd (false≢true (sym view))
+    at_kind width (Filter src conds keep) view = refl
+    at_kind width (Group src keys aggs) view = refl
+    at_kind width (Join left right pairs) view = refl
+
+    at_table : (found : Option TableOf) → is_raw found ≡ false
+        → holds_cells found key.part row.cells ≡ false
+    at_table None view = refl
+    at_table (Some table) view = at_kind table.width table.kind view
+
+-- so deliveries bring none
+brings-not_raw : (desc : DescOf) (deliveries : List DeliveryOf) (key : Key)
+    → is_raw (slice_get desc.tables key.table) ≡ false
+    → list_any (brings key desc) deliveries ≡ false
+brings-not_raw desc deliveries key view =
+    brings-none desc deliveries key (λ row. lies_in-not_raw desc key row view)
+
+-- deliveries more leave the version of a raw partition just where none of them brings a row of it
+raw_version-same : (desc : DescOf) (accepted more : List DeliveryOf) (key : Key)
+    → nat_eq (raw_version desc accepted key) (raw_version desc (accepted ++ more) key)
+    ≡ not (list_any (brings key desc) more)
+raw_version-same desc accepted [] key =
+    eq-eqb (raw_version desc accepted key) (raw_version desc (accepted ++ []) key)
+    (ap (λ (all : List DeliveryOf). raw_version desc all key) (sym (append-nil accepted)))
+raw_version-same desc accepted (delivery ∷ later) key =
+    let next = accepted ++ delivery ∷ [] in
+    ap (λ (all : List DeliveryOf).
+    nat_eq (raw_version desc accepted key) (raw_version desc all key))
+    (sym (append_assoc accepted (delivery ∷ []) later))
+    ∙ one (brings key desc delivery) (raw_version desc accepted key) (raw_version desc next key)
+    (raw_version desc (next ++ later) key) (list_any (brings key desc) later)
+    (raw_version-append desc accepted key delivery) (raw_version-le desc next later key)
+    (raw_version-same desc next later key)
+  where
+    one : (brought : Bool) (old new all : ℕ) (rest : Bool)
+        → new ≡ old + (if brought then 1 else 0) → new ≤ all → nat_eq new all ≡ not rest
+        → nat_eq old all ≡ not (brought || rest)
+    one true old new all rest counted at_most same = ne_eqb old all (λ equal. omega arith)
+    one false old new all rest counted at_most same =
+        ap (λ (count : ℕ). nat_eq count all) (omega arith) ∙ same
+
+-- loads leave a version just where they bring no row of the partition
+version-same : (desc : DescOf) (journal : List Entry) (deliveries : List DeliveryOf) (key : Key)
+    → nat_eq (version desc journal key) (version desc (with_loads journal deliveries) key)
+    ≡ not (list_any (brings key desc) deliveries)
+version-same desc journal deliveries key =
+    elim (cases_Bool (is_raw (slice_get desc.tables key.table))) [
+      | inl raw ↦
+          let after : version desc (with_loads journal deliveries) key
+          ≡ raw_version desc (accepted journal ++ deliveries) key =
+          version-raw desc (with_loads journal deliveries) key raw
+          ∙ ap (λ (all : List DeliveryOf). raw_version desc all key)
+          (accepted-append journal (map entry.Load deliveries)
+          ∙ ap (λ (more : List DeliveryOf). accepted journal ++ more)
+          (accepted-map-Load deliveries)) in
+          rw (version-raw desc journal key raw, after)
+          (raw_version-same desc (accepted journal) deliveries key)
+      | inr view ↦
+          let installs : install_places (with_loads journal deliveries) key
+          ≡ install_places journal key =
+          install_places-stay journal (map entry.Load deliveries) key
+          (install_places-Load deliveries key) in
+          eq-eqb (version desc journal key) (version desc (with_loads journal deliveries) key)
+          (version-view desc journal key view
+          ∙ ap (λ (places : List ℕ). length places) (sym installs)
+          ∙ sym (version-view desc (with_loads journal deliveries) key view))
+          ∙ ap not (sym (brings-not_raw desc deliveries key view))
+    ]
+
+-- behind loads a partition that was settled is not stale just where they bring no row of a source
+is_stale-with_loads : (desc : DescOf) (journal : List Entry) (deliveries : List DeliveryOf)
+    (key : Key) → HasEarlierSources desc → IsLegal desc journal
+    → is_settled desc journal key ≡ true
+    → not (is_stale desc (with_loads journal deliveries) key)
+    ≡ list_all (λ source. not (list_any (brings source desc) deliveries)) (sources_of desc key)
+is_stale-with_loads desc journal deliveries key earlier legal settled =
+    let sources = sources_of desc key in
+    let loaded = with_loads journal deliveries in
+    let before : recorded desc loaded key ≡ current desc journal key =
+    recorded-stay desc journal (map entry.Load deliveries) key
+    (last_place-le desc journal key legal) (install_places-Load deliveries key)
+    ∙ recorded-current desc journal key (is_stale-settled desc journal key earlier settled) in
+    not_not (pointwise nat_eq (recorded desc loaded key) (current desc loaded key))
+    ∙ ap (λ (versions : List ℕ). pointwise nat_eq versions (current desc loaded key)) before
+    ∙ pointwise-map (version desc journal) (version desc loaded) sources
+    ∙ list_all-agree (λ source. nat_eq (version desc journal source) (version desc loaded source))
+    (λ source. not (list_any (brings source desc) deliveries)) sources
+    (λ index default _. version-same desc journal deliveries (get_or sources index default))
+
+-- it is settled just where they reach none of its sources
+is_settled-with_loads : (depth : ℕ) (desc : DescOf) (journal : List Entry)
+    (deliveries : List DeliveryOf) (key : Key) → HasEarlierSources desc → IsLegal desc journal
+    → ((key : Key) → is_part desc key ≡ true → is_settled desc journal key ≡ true)
+    → key.table < depth → is_part desc key ≡ true
+    → is_settled desc (with_loads journal deliveries) key
+    ≡ not (list_any (is_reached desc deliveries) (sources_of desc key))
+is_settled-with_loads zero desc journal deliveries key earlier legal settled enough part =
+    absurd (omega (arith, enough))
+is_settled-with_loads (suc depth) desc journal deliveries key earlier legal settled enough part =
+    let sources = sources_of desc key in
+    let loaded = with_loads journal deliveries in
+    let brought = λ (source : Key). list_any (brings source desc) deliveries in
+    let each : All (λ source. (not (brought source) && is_settled desc loaded source)
+    ≡ not (is_reached desc deliveries source)) sources =
+    λ index default within.
+    let source = get_or sources index default in
+    let before : source.table < key.table =
+    sources_of-earlier desc key earlier index default within in
+    ap (λ (rest : Bool). not (brought source) && rest)
+    (is_settled-with_loads depth desc journal deliveries source earlier legal settled
+    (omega (arith, enough)) (sources_of-parts desc key index default within))
+    ∙ not-or (brought source) (list_any (is_reached desc deliveries) (sources_of desc source))
+    ∙ ap not (sym (is_reached-step desc deliveries source earlier)) in
+    is_settled-step desc loaded key earlier
+    ∙ ap (λ (fresh : Bool). fresh && list_all (is_settled desc loaded) sources)
+    (is_stale-with_loads desc journal deliveries key earlier legal (settled key part))
+    ∙ list_all-and (λ source. not (brought source)) (is_settled desc loaded) sources
+    ∙ list_all-agree (λ source. not (brought source) && is_settled desc loaded source)
+    (λ source. not (is_reached desc deliveries source)) sources each
+    ∙ list_all-not (is_reached desc deliveries) sources
+
+-- the unsettled partitions are those that the deliveries reach
+pub unsettled-with_loads : (desc : DescOf) (journal : List Entry) (deliveries : List DeliveryOf)
+    → HasEarlierSources desc → IsLegal desc journal
+    → ((key : Key) → is_part desc key ≡ true → is_settled desc journal key ≡ true)
+    → unsettled desc (with_loads journal deliveries) ≡ reached desc deliveries
+unsettled-with_loads desc journal deliveries earlier legal settled =
+    filter-agree (λ key. not (is_settled desc (with_loads journal deliveries) key))
+    (is_reached desc deliveries) (all_view_keys desc) (λ index default within.
+    let key = get_or (all_view_keys desc) index default in
+    let above = list_any (is_reached desc deliveries) (sources_of desc key) in
+    ap not (is_settled-with_loads (suc key.table) desc journal deliveries key earlier legal settled
+    (omega arith) (all_view_keys-parts desc index default within))
+    ∙ not_not above
+    ∙ sym (is_reached-step desc deliveries key earlier
+    ∙ ap (λ (brought : Bool). brought || above)
+    (brings-not_raw desc deliveries key (all_view_keys-not_raw desc index default within))))

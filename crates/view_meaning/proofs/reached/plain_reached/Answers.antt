@@ -1,0 +1,84 @@
+use Rattle.std.proofs.Common.{◌≡◌, ◌∙◌, [], ◌∷◌, length, arith}
+use Rattle.std.proofs.lemmas.List.{length-append}
+use Rattle.std.proofs.lemmas.Iterator.Adapters.{YieldsList-from_vec}
+use Rattle.std.proofs.lemmas.Iterator.Consumers.{YieldsList-turn, YieldsList-end}
+use Rattle.view_meaning.specs.PartLists.{lists_of}
+use Rattle.view_meaning.proofs.PartListLemmas.{AreBrought-at, length-lists_of}
+use Rattle.view_meaning.proofs.ReachedListLemmas.{AreInTime-AllReached, AreUpTo-more, has-reached, reached_of-all}
+use Rattle.view_meaning.proofs.reached.plain_reached.Goals as goal
+
+pub push_above-requires-clause-in_time : goal.push_above-requires-clause-in_time
+push_above-requires-clause-in_time c =
+    rw c.deref.ensures.value
+    (AreInTime-AllReached c.args.desc.now c.args.deliveries.now
+    (lists_of c.loop-parts.reached.items) c.requires.earlier c.requires.aligned
+    c.loop-parts.invariant.up_to.listed)
+
+pub push_above-requires-clause-earlier : goal.push_above-requires-clause-earlier
+push_above-requires-clause-earlier c =
+    let number : length c.deref.result.now ≡ c.len-number.result = omega arith in
+    rw number (c.requires.earlier c.len-number.result c.table_at-table.result.now
+    c.table_at-table.ensures)
+
+pub push_above-requires-clause-aligned : goal.push_above-requires-clause-aligned
+push_above-requires-clause-aligned c =
+    c.requires.aligned c.len-number.result c.table_at-table.result.now c.table_at-table.ensures
+
+pub loop-parts-preserved : goal.loop-parts-preserved
+loop-parts-preserved c =
+    let desc = c.args.desc.now in
+    let deliveries = c.args.deliveries.now in
+    let lists = lists_of c.loop-parts.reached.items in
+    let number = c.len-number.result in
+    let table = c.table_at-table.result.now in
+    let brought = c.in_ok-parts-items.parts-items in
+    let begun = c.into_iter-parts-iterator.ensures.into_iter_gives in
+    let yielded : number ≡ length c.loop-parts.yielded = omega arith in
+    let next : number ≡ length lists =
+    omega (arith, length-lists_of c.loop-parts.reached.items, c.loop-parts.reached.ok.0) in
+    let all = YieldsList-from_vec brought.items begun.0 (begun.1 ∙ brought.ok.0) in
+    let turn = rw (← yielded) at (YieldsList-turn all c.loop-parts.yielded
+    c.loop-parts.parts-iterator c.loop-parts.yielded_by c.next.result c.next.new.self
+    c.in-Some.parts c.in-Some.is c.next.ensures.steps) in
+    let own = AreBrought-at desc deliveries brought.items number c.in-Some.parts turn.0 turn.1
+    c.in_ok-parts-items.ensures.exact in
+    let gained = has-reached desc deliveries lists number table
+    c.in-Some.parts.items c.push_above.new.parts.items c.requires.earlier
+    c.table_at-table.ensures next c.loop-parts.invariant.up_to.listed own
+    (rw c.deref.ensures.value at c.in_ok-push_above.ensures.ok) in
+    record {
+      each = omega (
+        arith,
+        c.in_ok-push_list.ensures.len,
+        length-append c.loop-parts.yielded (c.in-Some.parts ∷ []),
+      );
+      up_to = rw (
+        c.in_ok-push_list.ensures.ok,
+        c.in_ok-push_view_keys.ensures.ok,
+        c.deref-in-loop-parts.ensures.value,
+      )
+          (AreUpTo-more desc deliveries lists c.loop-parts.keys.items number table
+          c.sort_parts.new.parts.items c.requires.earlier c.requires.aligned
+          c.table_at-table.ensures next c.sort_parts.ensures.rising
+          (λ part. c.sort_parts.ensures.same part ∙ gained part) c.loop-parts.invariant.up_to);
+    }
+
+pub returns : goal.returns
+returns c =
+    let brought = c.in_ok-parts-items.parts-items in
+    let begun = c.into_iter-parts-iterator.ensures.into_iter_gives in
+    let all = YieldsList-from_vec brought.items begun.0 (begun.1 ∙ brought.ok.0) in
+    let end = YieldsList-end all c.loop-parts.yielded c.loop-parts.parts-iterator
+    c.loop-parts.yielded_by c.next.result c.next.new.self c.in-None.is c.next.ensures.steps in
+    let each : length (lists_of c.loop-parts.reached.items) ≡ length c.args.desc.now.tables =
+    omega (
+      arith,
+      length-lists_of c.loop-parts.reached.items,
+      c.loop-parts.reached.ok.0,
+      c.in_ok-parts-items.ensures.each,
+      brought.ok.0,
+    ) in
+    record {
+      exact = rw each at c.loop-parts.invariant.up_to.told
+          ∙ reached_of-all c.args.desc.now c.args.deliveries.now;
+    }

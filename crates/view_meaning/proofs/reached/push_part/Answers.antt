@@ -1,0 +1,24 @@
+use Rattle.std.proofs.Common.{◌≡◌, ◌∙◌, ℕ, ◌<◌, List, [], ◌∷◌, ◌++◌, length, get_or, set, sym, ap, arith}
+use Rattle.std.specs.Prelude.{Vec}
+use Rattle.std.specs.declared.alloc.Global.{Global}
+use Rattle.std.proofs.lemmas.List.{map-set}
+use Rattle.view_meaning.specs.PartLists.{lists_of, parts_at}
+use Rattle.view_meaning.proofs.PartListLemmas.{parts_at-lists_of}
+use Rattle.view_meaning.proofs.reached.push_part.Goals as goal
+
+-- a number put at the end of one vector of many
+lists_of-set : (lists : List (Vec ℕ Global)) (table part : ℕ) (old new : Vec ℕ Global)
+    → table < length lists → old ≡ get_or lists table old → new.items ≡ old.items ++ part ∷ []
+    → lists_of (set lists table new)
+    ≡ set (lists_of lists) table (parts_at (lists_of lists) table ++ part ∷ [])
+lists_of-set lists table part old new within read pushed =
+    map-set (λ (parts : Vec ℕ Global). parts.items) lists table new
+    ∙ ap (λ (parts : List ℕ). set (lists_of lists) table parts)
+    (pushed ∙ ap (λ (parts : List ℕ). parts ++ part ∷ [])
+    (sym (parts_at-lists_of lists table old within read)))
+
+pub returns-in-Ok-clause-ok : goal.returns-in-Ok-clause-ok
+returns-in-Ok-clause-ok c =
+    lists_of-set c.args.lists.now.items c.args.table c.args.part c.index_mut.result.now
+    c.push.new.self (omega (arith, c.args.lists.now.ok.0)) c.index_mut.ensures.value
+    c.in-Ok.ensures.items

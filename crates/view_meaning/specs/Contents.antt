@@ -1,0 +1,80 @@
+-- What the rows of a version are, by the versions that it was made of.
+use Rattle.std.specs.Prelude.{ℕ, zero, suc, ◌≡◌, List, [], ◌∷◌, ◌++◌, Option, Some, None, true, map, filter, flat_map, take, get_or, slice_get, if◌then◌else◌}
+use Rattle.depot_cell.specs.declared.cell.Cell.{Cell}
+use Rattle.table_desc.specs.declared.table.Key.{Key}
+use Rattle.table_desc.specs.declared.delivery.DRow.{DRow}
+use Rattle.table_desc.specs.Deliveries.{DeliveryOf}
+use Rattle.table_desc.specs.Descriptions.{DescOf}
+use Rattle.table_desc.specs.Tables.{TableOf}
+use Rattle.view_meaning.specs.declared.journal.Entry.{Entry}
+use Rattle.view_meaning.specs.Journal.{accepted}
+use Rattle.view_meaning.specs.SetAside.{kept_rows}
+use Rattle.view_meaning.specs.RawValues.{lies_in}
+use Rattle.view_meaning.specs.Operations.{operation}
+use Rattle.view_meaning.specs.Versions.{touches, is_raw_kind, version, install_places}
+use Rattle.view_meaning.specs.Staleness.{is_settled}
+use Rattle.view_meaning.specs.Values.{joined, value}
+
+-- the rows of the partition that a delivery keeps, where these were accepted before it
+abbrev pub rows_kept : DescOf → Key → List DeliveryOf → DeliveryOf → List (List Cell)
+rows_kept desc key before delivery =
+    map (λ (row : DRow). row.cells) (filter (lies_in desc key) (kept_rows desc before delivery))
+
+-- of each delivery that keeps a row in the partition those rows, where they were accepted one by
+-- one behind those before
+abbrev pub loads_kept : DescOf → Key → (before accepted : List DeliveryOf) → List (List (List Cell))
+loads_kept desc key before [] = []
+loads_kept desc key before (delivery ∷ later) =
+    if touches desc key before delivery
+    then rows_kept desc key before delivery
+    ∷ loads_kept desc key (before ++ delivery ∷ []) later
+    else loads_kept desc key (before ++ delivery ∷ []) later
+
+-- the content of a version of a raw partition: the kept rows of the first so many deliveries that
+-- kept one in it
+abbrev pub raw_content : DescOf → List DeliveryOf → Key → (number : ℕ) → List (List Cell)
+raw_content desc accepted key number =
+    flat_map (λ rows. rows) (take number (loads_kept desc key [] accepted))
+
+-- the content of the version of a view's partition that an install with this place made, where the
+-- versions of the sources have these rows
+abbrev pub install_content : DescOf → (rows : Key → ℕ → List (List Cell)) → List Entry → Key
+    → TableOf → (at : ℕ) → List (List Cell)
+install_content desc rows journal key table at = operation table.kind
+    (joined desc (λ source. rows source (version desc (take at journal) source))
+    table.width key.part)
+
+-- the content of a version of a view's partition: version 0 is empty, and each other one is what
+-- its install made
+abbrev pub view_content : DescOf → (rows : Key → ℕ → List (List Cell)) → List Entry → Key
+    → TableOf → (number : ℕ) → List (List Cell)
+view_content desc rows journal key table zero = []
+view_content desc rows journal key table (suc number) =
+    install_content desc rows journal key table (get_or (install_places journal key) number 0)
+
+-- the content of a version of a partition of this table, where the versions of partitions of
+-- earlier tables have these rows
+abbrev pub content_over : DescOf → (rows : Key → ℕ → List (List Cell)) → List Entry → Key
+    → (number : ℕ) → Option TableOf → List (List Cell)
+content_over desc rows journal key number None = []
+content_over desc rows journal key number (Some table) =
+    if is_raw_kind table.kind then raw_content desc (accepted journal) key number
+    else view_content desc rows journal key table number
+
+-- the content of a version, down through at most so many tables
+abbrev pub content_within : ℕ → DescOf → List Entry → Key → (number : ℕ) → List (List Cell)
+content_within zero desc journal key number = []
+content_within (suc depth) desc journal key number =
+    content_over desc (content_within depth desc journal) journal key number
+    (slice_get desc.tables key.table)
+
+-- the content of a version of a partition
+abbrev pub content : DescOf → List Entry → Key → (number : ℕ) → List (List Cell)
+content desc journal key number = content_within (suc key.table) desc journal key number
+
+-- where a partition is settled, the content of its latest version is its value from scratch over
+-- all accepted deliveries
+abbrev pub HasSettledValues : Type 0
+HasSettledValues = (desc : DescOf) (journal : List Entry) (key : Key)
+    → is_settled desc journal key ≡ true
+    → content desc journal key (version desc journal key) ≡ value desc (accepted journal) key

@@ -1,0 +1,283 @@
+//! Which partitions of views have to be computed again, by the deliveries that came since all were
+//! settled. For each table in order its partitions are listed by number: those that rows of the
+//! deliveries lie in, and those that read a listed one of an earlier table.
+
+ghost use Rattle.std.specs.Prelude.{ℕ, ◌≡◌, ◌<◌, ◌≤◌, ◌++◌, ◌∷◌, ◌||◌, ◌+◌, ◌/◌, List, [], Some, IfOk, OnOk, IsSome, All, length, map, option_to_list, slice_get, slice_set, vec_len};
+ghost use Rattle.std.specs.List.{list_any};
+ghost use Rattle.std.specs.List.Sorted.{IsStrictlyIncreasing};
+ghost use Rattle.view_meaning.specs.Partitions.{END, start_of, table_width, kind_sources, keys_below, keys_read, is_covered, IsAligned, HasAlignedSources, HasEarlierSources};
+ghost use Rattle.view_meaning.specs.PartLists.{AllGain, AreBrought, AreInTime, Gains, has, is_listed, key_of, keys_of_view, lists_of, parts_at, takes, takes_any};
+ghost use Rattle.view_meaning.specs.RawValues.{lies_in};
+ghost use Rattle.view_meaning.specs.Reached.{reached};
+
+use crate::plain::row_tick;
+use depot_cell::Memory;
+use std::alloc::Global;
+use table_desc::{DRow, Delivery, Desc, END, Key, Kind, Src, Table, Width};
+
+/// The partitions of views that deliveries reach, in order of key: those that stand above a
+/// partition of which they bring a row. The work is by the rows and by the partitions that they
+/// reach, and never by all partitions of time.
+pub fn plain_reached(
+    alloc: Global,
+    desc: &Desc,
+    deliveries: &[Delivery],
+) -> Result<Vec<Key>, Memory>
+    requires few { length desc.now.tables ≤ 65_536 }
+    requires earlier { HasEarlierSources desc.now }
+    requires aligned { HasAlignedSources desc.now }
+    ensures exact { IfOk result (λ keys. keys.items ≡ reached desc.now deliveries.now) }
+{
+    let mut keys = Vec::new(alloc);
+    let mut reached = Vec::new(alloc);
+    for mut parts in brought_parts(alloc, desc, deliveries)? {
+        let number = reached.len();
+        let table = table_at(desc, number);
+        push_above(desc, table, &reached, &mut parts)?;
+        sort_parts(&mut parts);
+        push_view_keys(number as u16, table, &parts, &mut keys)?;
+        push_list(&mut reached, parts)?;
+    }
+    Ok(keys)
+}
+
+/// The table with a number.
+fn table_at(desc: &Desc, number: usize) -> &Table
+    requires { number < length desc.now.tables }
+    ensures { slice_get desc.now.tables number ≡ Some result.now }
+{
+    &desc.tables[number]
+}
+
+/// Puts a list at the end.
+fn push_list(lists: &mut Vec<Vec<u64>>, parts: Vec<u64>) -> Result<(), Memory>
+    ensures len { OnOk result (vec_len lists.new ≡ vec_len lists.old + 1) }
+    ensures ok { OnOk result
+        (lists_of lists.new.items ≡ lists_of lists.old.items ++ parts.items ∷ []) }
+{
+    match lists.push(parts) {
+        Ok(()) => Ok(()),
+        Err(_) => Err(Memory),
+    }
+}
+
+/// Of each table the numbers of the partitions that rows of the deliveries lie in, one for a row.
+fn brought_parts(
+    alloc: Global,
+    desc: &Desc,
+    deliveries: &[Delivery],
+) -> Result<Vec<Vec<u64>>, Memory>
+    ensures each { IfOk result (λ brought. vec_len brought ≡ length desc.now.tables) }
+    ensures exact { IfOk result (λ brought.
+        AreBrought desc.now deliveries.now (lists_of brought.items)) }
+{
+    let mut brought = empty_lists(alloc, desc.tables.len())?;
+    for delivery in deliveries {
+        push_rows(desc, &delivery.rows, &mut brought)?;
+    }
+    Ok(brought)
+}
+
+/// So many lists with no number.
+fn empty_lists(alloc: Global, count: usize) -> Result<Vec<Vec<u64>>, Memory>
+    ensures each { IfOk result (λ lists. vec_len lists ≡ count) }
+    ensures empty { IfOk result (λ lists.
+        (table : ℕ) → parts_at (lists_of lists.items) table ≡ []) }
+{
+    let mut lists = Vec::new(alloc);
+    for _ in 0..count {
+        if lists.push(Vec::new(alloc)).is_err() {
+            return Err(Memory);
+        }
+    }
+    Ok(lists)
+}
+
+/// Puts the number of the partition that each row lies in at the end of those of its table.
+fn push_rows(desc: &Desc, rows: &[DRow], lists: &mut Vec<Vec<u64>>) -> Result<(), Memory>
+    requires { vec_len lists.old ≡ length desc.now.tables }
+    ensures each { vec_len lists.new ≡ vec_len lists.old }
+    ensures ok { OnOk result (AllGain (takes_any desc.now rows.now)
+        (lists_of lists.old.items) (lists_of lists.new.items)) }
+{
+    for row in rows {
+        push_row(desc, row, lists)?;
+    }
+    Ok(())
+}
+
+/// Puts the number of the partition that a row lies in at the end of those of its table.
+fn push_row(desc: &Desc, row: &DRow, lists: &mut Vec<Vec<u64>>) -> Result<(), Memory>
+    requires { vec_len lists.old ≡ length desc.now.tables }
+    ensures each { vec_len lists.new ≡ vec_len lists.old }
+    ensures ok { OnOk result (AllGain (takes desc.now row.now)
+        (lists_of lists.old.items) (lists_of lists.new.items)) }
+{
+    match part_of(desc, row) {
+        Some(part) => push_part(lists, usize::from(row.table), part),
+        None => Ok(()),
+    }
+}
+
+/// Puts a number at the end of those of a table.
+fn push_part(lists: &mut Vec<Vec<u64>>, table: usize, part: u64) -> Result<(), Memory>
+    requires { table < vec_len lists.old }
+    ensures each { vec_len lists.new ≡ vec_len lists.old }
+    ensures ok { OnOk result (lists_of lists.new.items ≡ slice_set (lists_of lists.old.items) table
+        (parts_at (lists_of lists.old.items) table ++ part ∷ [])) }
+{
+    match lists[table].push(part) {
+        Ok(()) => Ok(()),
+        Err(_) => Err(Memory),
+    }
+}
+
+/// The number of the partition that a row lies in, if there is one.
+fn part_of(desc: &Desc, row: &DRow) -> Option<u64>
+    ensures lies { (part : ℕ) → has (option_to_list result) part
+        ≡ lies_in desc.now (key_of row.now.table part) row.now }
+    ensures there { IsSome result → row.now.table < length desc.now.tables }
+{
+    let table = desc.tables.get(usize::from(row.table))?;
+    covering_part(table.width, row_tick(&table.kind, &row.cells)?)
+}
+
+/// The number of the partition that covers a tick, if there is one.
+fn covering_part(width: Width, tick: u64) -> Option<u64>
+    ensures { (part : ℕ) → has (option_to_list result) part ≡ is_covered width part tick }
+{
+    if tick < END {
+        Some(tick / width.ticks())
+    } else {
+        None
+    }
+}
+
+/// Puts at the end the numbers of a table's partitions that read one of those listed.
+fn push_above(
+    desc: &Desc,
+    table: &Table,
+    lists: &[Vec<u64>],
+    parts: &mut Vec<u64>,
+) -> Result<(), Memory>
+    requires within { length lists.now ≤ length desc.now.tables }
+    requires in_time { AreInTime desc.now (lists_of lists.now) }
+    requires earlier { All (λ src. src.table < length lists.now) (kind_sources table.now.kind) }
+    requires aligned { All (λ src.
+        IsAligned table.now.width (table_width desc.now src.table) src.span)
+        (kind_sources table.now.kind) }
+    ensures ok { OnOk result (Gains (λ part.
+        list_any (is_listed (lists_of lists.now)) (keys_below desc.now part (Some table.now)))
+        parts.old.items parts.new.items) }
+{
+    match &table.kind {
+        Kind::Raw { .. } => Ok(()),
+        Kind::Filter { src, .. } => push_readers(desc, table.width, src, lists, parts),
+        Kind::Group { src, .. } => push_readers(desc, table.width, src, lists, parts),
+        Kind::Join { left, right, .. } => {
+            push_readers(desc, table.width, left, lists, parts)?;
+            push_readers(desc, table.width, right, lists, parts)
+        }
+    }
+}
+
+/// Puts at the end the numbers of a view's partitions that read one of those listed of a source.
+fn push_readers(
+    desc: &Desc,
+    width: Width,
+    src: &Src,
+    lists: &[Vec<u64>],
+    parts: &mut Vec<u64>,
+) -> Result<(), Memory>
+    requires within { length lists.now ≤ length desc.now.tables }
+    requires in_time { AreInTime desc.now (lists_of lists.now) }
+    requires earlier { src.now.table < length lists.now }
+    requires aligned { IsAligned width (table_width desc.now src.now.table) src.now.span }
+    ensures ok { OnOk result (Gains
+        (λ part. list_any (is_listed (lists_of lists.now)) (keys_read desc.now width part src.now))
+        parts.old.items parts.new.items) }
+{
+    push_wider(
+        ticks_of(desc, src.table),
+        width.ticks(),
+        parts_of(lists, src.table),
+        parts,
+    )
+}
+
+/// The numbers listed for a table.
+fn parts_of(lists: &[Vec<u64>], table: u16) -> &[u64]
+    requires { table < length lists.now }
+    ensures { result.now ≡ parts_at (lists_of lists.now) table }
+{
+    &lists[usize::from(table)]
+}
+
+/// How many ticks a partition of a table covers.
+fn ticks_of(desc: &Desc, table: u16) -> u64
+    requires { table < length desc.now.tables }
+    ensures value { result ≡ table_width desc.now table }
+    ensures some { 1 ≤ table_width desc.now table }
+{
+    desc.tables[usize::from(table)].width.ticks()
+}
+
+/// Puts at the end the numbers of the wider partitions that these lie in, by the ticks that one
+/// covers.
+fn push_wider(
+    source_ticks: u64,
+    ticks: u64,
+    source_parts: &[u64],
+    parts: &mut Vec<u64>,
+) -> Result<(), Memory>
+    requires some { 1 ≤ ticks }
+    requires in_time { All (λ part. start_of source_ticks part < END) source_parts.now }
+    ensures ok { OnOk result (parts.new.items ≡ parts.old.items
+        ++ map (λ part. start_of source_ticks part / ticks) source_parts.now) }
+{
+    for part in source_parts {
+        if parts.push(part * source_ticks / ticks).is_err() {
+            return Err(Memory);
+        }
+    }
+    Ok(())
+}
+
+/// Puts numbers in order and leaves out doubles.
+fn sort_parts(parts: &mut Vec<u64>)
+    ensures rising { IsStrictlyIncreasing parts.new.items }
+    ensures same { (part : ℕ) → has parts.new.items part ≡ has parts.old.items part }
+{
+    parts.sort_unstable();
+    parts.dedup();
+}
+
+/// Puts at the end the partitions with these numbers, where their table is a view.
+fn push_view_keys(
+    number: u16,
+    table: &Table,
+    parts: &[u64],
+    keys: &mut Vec<Key>,
+) -> Result<(), Memory>
+    ensures ok { OnOk result
+        (keys.new.items ≡ keys.old.items ++ keys_of_view number table.now.kind parts.now) }
+{
+    match &table.kind {
+        Kind::Raw { .. } => Ok(()),
+        Kind::Filter { .. } | Kind::Group { .. } | Kind::Join { .. } => {
+            push_keys(number, parts, keys)
+        }
+    }
+}
+
+/// Puts the partitions of a table with these numbers at the end.
+fn push_keys(table: u16, parts: &[u64], keys: &mut Vec<Key>) -> Result<(), Memory>
+    ensures ok { OnOk result (keys.new.items ≡ keys.old.items ++ map (key_of table) parts.now) }
+{
+    for part in parts {
+        if keys.push(Key { table, part: *part }).is_err() {
+            return Err(Memory);
+        }
+    }
+    Ok(())
+}
