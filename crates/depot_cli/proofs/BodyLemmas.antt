@@ -1,6 +1,6 @@
 -- Lemmas on the rows of a body: cells and rows are read from the front, and `with_front` puts
 -- what was read before what the rest is.
-use Rattle.std.proofs.Common.{◌≡◌, ◌∙◌, ◌+◌, ◌<◌, ◌≤◌, ◌∷◌, ◌++◌, [], ℕ, zero, suc, List, Option, Some, None, drop, get_or, length, refl, sym, ap, true, false, arith, append_assoc}
+use Rattle.std.proofs.Common.{◌≡◌, ◌∙◌, ◌+◌, ◌<◌, ◌≤◌, ◌∷◌, ◌++◌, [], ℕ, zero, suc, List, Option, Some, None, drop, get_or, length, refl, sym, ap, true, false, arith}
 use Rattle.std.specs.Prelude.{◌&&◌, option_map}
 use Rattle.std.specs.Str.{bytes_eq}
 use Rattle.std.proofs.lemmas.List.Quantifiers.{position-Some}
@@ -19,27 +19,8 @@ use Rattle.table_desc.specs.Descriptions.{DescOf}
 use Rattle.table_desc.specs.Tables.{TableOf}
 use Rattle.depot_cli.specs.Bodies.{cells_of, is_raw_of, raw_named, records_of, row_of, rows_from, rows_of, table_cells}
 use Rattle.depot_cli.specs.Description.{with_first}
+use Rattle.depot_cli.proofs.FrontLemmas.{with_first-none, with_front, with_front-first, with_front-nil}
 use Rattle.depot_cli.proofs.CsvRecords.{Yields, Yields-end, Yields-more, records-short}
-
--- a list before another, where that one is there
-abbrev pub with_front : {X : Type 0} → List X → Option (List X) → Option (List X)
-with_front front rest = option_map (λ rest. front ++ rest) rest
-
--- nothing before a list is that list
-with_front-nil : {X : Type 0} (rest : Option (List X)) → with_front [] rest ≡ rest
-with_front-nil None = refl
-with_front-nil (Some rest) = refl
-
--- the first of the rest goes to the front
-with_front-first : {X : Type 0} (front : List X) (first : X) (rest : Option (List X))
-    → with_front front (with_first (Some first) rest) ≡ with_front (front ++ first ∷ []) rest
-with_front-first front first None = refl
-with_front-first front first (Some rest) = ap Some (sym (append_assoc front (first ∷ []) rest))
-
--- no list where the rest is none
-with_first-none : {X : Type 0} (first : Option X) → with_first first None ≡ None
-with_first-none None = refl
-with_first-none (Some first) = refl
 
 -- as many cells as columns, or none
 pub cells_of-lengths : (columns : List Column) (fields : List (List ℕ))

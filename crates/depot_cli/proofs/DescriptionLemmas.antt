@@ -1,21 +1,47 @@
 -- What a line adds to a description.
-use Rattle.std.proofs.Common.{◌≡◌, ℕ, ◌+◌, ◌<◌, ◌≢◌, List, [], ◌∷◌, Option, Some, None, Bool, true, false, is_some, unwrap_or, length, ap, refl, arith}
+use Rattle.std.proofs.Common.{◌≡◌, ℕ, ◌+◌, ◌<◌, ◌≤◌, Bor, List, ◌∷◌, Option, Some, None, Bool, true, false, is_some, unwrap_or, length, map, get_or, drop, ap, refl, arith}
 use Rattle.table_desc.specs.Descriptions.{DescOf}
-use Rattle.depot_cli.specs.Description.{Described, declared_by, with_declared}
+use Rattle.depot_cli.specs.Description.{Described, declared_by, filter_read, filter_said, is_filter, raw_said, table_said, with_declared, with_table}
 
--- fewer than nine words, and not two, declare nothing
-pub declared_by-none : (desc : DescOf) (words : List (List ℕ))
-    → length words ≢ 2 → length words < 9 → declared_by desc words ≡ None
-declared_by-none desc [] odd few = refl
-declared_by-none desc (_ ∷ []) odd few = refl
-declared_by-none desc (_ ∷ _ ∷ []) odd few = absurd (odd refl)
-declared_by-none desc (_ ∷ _ ∷ _ ∷ []) odd few = refl
-declared_by-none desc (_ ∷ _ ∷ _ ∷ _ ∷ []) odd few = refl
-declared_by-none desc (_ ∷ _ ∷ _ ∷ _ ∷ _ ∷ []) odd few = refl
-declared_by-none desc (_ ∷ _ ∷ _ ∷ _ ∷ _ ∷ _ ∷ []) odd few = refl
-declared_by-none desc (_ ∷ _ ∷ _ ∷ _ ∷ _ ∷ _ ∷ _ ∷ []) odd few = refl
-declared_by-none desc (_ ∷ _ ∷ _ ∷ _ ∷ _ ∷ _ ∷ _ ∷ _ ∷ []) odd few = refl
-declared_by-none desc (_ ∷ _ ∷ _ ∷ _ ∷ _ ∷ _ ∷ _ ∷ _ ∷ _ ∷ others) odd few = absurd (omega arith)
+-- fewer than two words declare nothing
+pub declared_by-few : (desc : DescOf) (words : List (Bor (List ℕ))) → length words < 2
+    → declared_by desc (map (λ word. word.now) words) ≡ None
+declared_by-few desc (_ ∷ _ ∷ others) few = absurd (omega arith)
+declared_by-few desc _ few = refl
+
+-- more than two words declare a table, if anything
+pub declared_by-more : (desc : DescOf) (words : List (Bor (List ℕ))) (default : Bor (List ℕ))
+    → 3 ≤ length words
+    → declared_by desc (map (λ word. word.now) words)
+    ≡ with_table desc (get_or words 1 default).now (table_said desc (get_or words 0 default).now
+    (get_or words 1 default).now (map (λ word. word.now) (drop 2 words)))
+declared_by-more desc (_ ∷ _ ∷ _ ∷ others) default more = refl
+declared_by-more desc _ default more = absurd (omega arith)
+
+-- fewer than seven words behind the name say no raw table
+pub raw_said-few : (desc : DescOf) (name : List ℕ) (words : List (Bor (List ℕ))) → length words < 7
+    → raw_said desc name (map (λ word. word.now) words) ≡ None
+raw_said-few desc name (_ ∷ _ ∷ _ ∷ _ ∷ _ ∷ _ ∷ _ ∷ others) few = absurd (omega arith)
+raw_said-few desc name _ few = refl
+
+-- and no filter
+pub filter_said-few : (desc : DescOf) (name : List ℕ) (words : List (Bor (List ℕ)))
+    → length words < 7
+    → filter_said desc name (map (λ word. word.now) words) ≡ None
+filter_said-few desc name (_ ∷ _ ∷ _ ∷ _ ∷ _ ∷ _ ∷ _ ∷ others) few = absurd (omega arith)
+filter_said-few desc name _ few = refl
+
+-- seven words and those behind them, where they have the form of a filter, say one
+pub filter_said-more : (desc : DescOf) (name : List ℕ) (words : List (Bor (List ℕ)))
+    (default : Bor (List ℕ))
+    → 7 ≤ length words
+    → is_filter (get_or words 0 default).now (get_or words 2 default).now
+    (get_or words 4 default).now (get_or words 5 default).now (get_or words 6 default).now ≡ true
+    → filter_said desc name (map (λ word. word.now) words)
+    ≡ filter_read desc name (get_or words 1 default).now (get_or words 3 default).now
+    (map (λ word. word.now) (drop 7 words))
+filter_said-more desc name (_ ∷ _ ∷ _ ∷ _ ∷ _ ∷ _ ∷ _ ∷ others) default more fits = rw fits refl
+filter_said-more desc name _ default more fits = absurd (omega arith)
 
 -- a line that declares something
 pub with_declared-told : (before : Described) (declared : Option DescOf) (told : Bool)

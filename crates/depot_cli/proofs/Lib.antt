@@ -3,10 +3,16 @@ pub mod ColumnLemmas
 pub mod CsvRecords
 pub mod DescriptionLemmas
 pub mod FlexibleRows
+pub mod FrontLemmas
 pub mod KnownLemmas
+pub mod JournalViewLemmas
+pub mod KeptLemmas
 pub mod LineLemmas
 pub mod NameLemmas
 pub mod OpeningLemmas
 pub mod ReplyLemmas
 pub mod RunLemmas
+pub mod ServedLemmas
 pub mod SessionLemmas
+pub mod SerialLemmas
+pub mod SieveLemmas

@@ -88,6 +88,8 @@ order_step-fewer desc base taken order.Nothing bytes rest work taken_now does =
     same_fewer bytes rest cc
 order_step-fewer desc base taken (order.Query item) bytes rest work taken_now does =
     same_fewer bytes rest cc
+order_step-fewer desc base taken order.Drain bytes rest work taken_now does =
+    same_fewer bytes rest cc
 order_step-fewer desc base taken order.End bytes rest work taken_now does = cc
 order_step-fewer desc base taken order.Refused bytes rest work taken_now does =
     same_fewer bytes rest cc

@@ -1,9 +1,10 @@
--- What the definitions of the replies come to while nothing closes and no view is installed.
+-- What the definitions of the replies come to while nothing closes.
 use Rattle.std.proofs.Common.{◌≡◌, ℕ, ◌+◌, List, [], ◌∷◌, ◌++◌, length, false, refl, sym, ap, ◌∙◌, arith, map, append-nil, append_assoc, le-ltb, ◌≤◌, ◌-◌}
-use Rattle.std.specs.Prelude.{Option, Some, None, slice_get, count_by, flat_map}
+use Rattle.std.specs.Prelude.{Option, Some, None, slice_get, fold, take, flat_map}
 use Rattle.std.specs.List.{range_with_len}
 use Rattle.std.proofs.lemmas.List.FromFn.{length-map-range_with_len, map-range_with_len_more}
 use Rattle.std.proofs.lemmas.Grind.{flat_map-append}
+use Rattle.depot_cell.specs.declared.cell.Cell.{Cell}
 use Rattle.table_desc.specs.declared.table.Key.{Key}
 use Rattle.table_desc.specs.Deliveries.{DeliveryOf}
 use Rattle.table_desc.specs.Descriptions.{DescOf}
@@ -11,14 +12,18 @@ use Rattle.table_desc.specs.Tables.{TableOf}
 use Rattle.view_meaning.specs.declared.journal.Entry.{Entry}
 use Rattle.view_meaning.specs.declared.journal.Entry.TheVariants as entry
 use Rattle.view_meaning.specs.declared.request.Item.{Item}
-use Rattle.view_meaning.specs.Partitions.{is_met, parts_met}
-use Rattle.view_meaning.specs.Journal.{accepted}
-use Rattle.view_meaning.specs.Shown.{ShownPart, shown, shown_part, width_of}
-use Rattle.view_meaning.specs.Versions.{installs, is_raw_kind, version}
+use Rattle.view_meaning.specs.Partitions.{is_met, parts_met, width_of}
+use Rattle.view_meaning.specs.Journal.{accepted, is_repeat}
+use Rattle.view_meaning.specs.Shown.{ShownPart, shown, shown_part}
+use Rattle.view_meaning.specs.Values.{value}
+use Rattle.view_meaning.specs.Versions.{install_places, is_raw}
+use Rattle.view_meaning.specs.declared.request.Mark.TheVariants as mark
+use Rattle.view_meaning.proofs.ContentLemmas.{value-nothing}
+use Rattle.depot_cli.specs.declared.version.Version.{Version}
+use Rattle.depot_cli.specs.KeptJournals.{latest, version_made}
 use Rattle.view_meaning.proofs.FilterLemmas.{filter-none}
 use Rattle.view_meaning.proofs.SetAsideLemmas.{kept_rows-all, aside_rows-none}
 use Rattle.depot_cli.specs.Replies.{load_reply}
-use Rattle.depot_cli.specs.SerialJournal.{is_repeat}
 use Rattle.depot_cli.specs.Texts.{answer_line, answer_text, feed_name, loaded_text, shown_text, name_of, table_name}
 
 -- the reply to a delivery that is no repeat: all of its rows are kept
@@ -33,20 +38,49 @@ load_reply-new desc journal delivery is_new =
       aside_rows-none desc (accepted journal) delivery,
     ) refl
 
--- loads install nothing
-count_by-installs : (key : Key) (deliveries : List DeliveryOf)
-    → count_by (installs key) (map entry.Load deliveries) ≡ 0
-count_by-installs key [] = refl
-count_by-installs key (delivery ∷ later) = count_by-installs key later
+-- what is shown of a view's partition with this latest version
+abbrev pub shown_version : Key → Option Version → ShownPart
+shown_version key None = record {
+  item = record { key = key; version = 0; upto = 0; mark = mark.Open };
+  rows = [];
+}
+shown_version key (Some version) = record {
+  item = record {
+    key = key;
+    version = version.number;
+    upto = version.at;
+    mark = mark.Open;
+  };
+  rows = version.rows;
+}
 
--- the version of a view's partition, where the journal has loads alone
-pub version-view : (desc : DescOf) (journal : List Entry) (deliveries : List DeliveryOf)
-    (key : Key) (table : TableOf)
-    → slice_get desc.tables key.table ≡ Some table → is_raw_kind table.kind ≡ false
-    → journal ≡ map entry.Load deliveries
-    → version desc journal key ≡ 0
-version-view desc journal deliveries key table there view loads =
-    rw (there, view, loads) (count_by-installs key deliveries)
+-- the version that was made with these places is shown so
+shown_version-made : (desc : DescOf) (journal : List Entry) (key : Key) (places : List ℕ)
+    → shown_version key (version_made desc key (length places) (fold (λ _ place. place) 0 places)
+    (take (fold (λ _ place. place) 0 places) journal))
+    ≡ record {
+      item = record {
+        key = key;
+        version = length places;
+        upto = fold (λ _ place. place) 0 places;
+        mark = mark.Open;
+      };
+      rows = value desc (accepted (take (fold (λ _ place. place) 0 places) journal)) key;
+    }
+shown_version-made desc journal key [] =
+    ap (λ (rows : List (List Cell)). record {
+      item = record { key = key; version = 0; upto = 0; mark = mark.Open };
+      rows = rows;
+    })
+    (sym (value-nothing desc key))
+shown_version-made desc journal key (place ∷ places) = refl
+
+-- a view's partition is shown by its latest version
+pub shown_part-view : (desc : DescOf) (journal : List Entry) (key : Key)
+    → is_raw (slice_get desc.tables key.table) ≡ false
+    → shown_part desc journal key ≡ shown_version key (latest desc journal key)
+shown_part-view desc journal key view =
+    rw view (sym (shown_version-made desc journal key (install_places journal key)))
 
 -- no partition of no width shares a tick with a span
 is_met-zero : (from to part : ℕ) → is_met 0 from to part ≡ false

@@ -9,12 +9,10 @@ use Rattle.std.proofs.lemmas.List.Folds.{list_any-append}
 use Rattle.std.proofs.lemmas.List.Sums.{fold-append}
 use Rattle.table_desc.specs.Descriptions.{DescOf}
 use Rattle.view_meaning.specs.declared.journal.Entry.{Entry}
-use Rattle.view_meaning.specs.declared.journal.Entry.TheVariants as entry
 use Rattle.depot_cli.specs.declared.work.Work.{Work}
-use Rattle.depot_cli.specs.declared.work.Work.TheVariants as work
 use Rattle.depot_cli.specs.Reading.{Session, Step, Does, after_item, session, session_at, session_from, step_of}
 use Rattle.depot_cli.specs.ScriptCalls.{IsStep}
-use Rattle.depot_cli.specs.SerialJournal.{is_repeat, journal_after, serial}
+use Rattle.depot_cli.specs.SerialJournal.{journal_after, serial}
 use Rattle.depot_cli.specs.Replies.{has_refused, is_refused, replies, reply}
 use Rattle.depot_cli.proofs.KnownLemmas.{IfSome-known}
 use Rattle.depot_cli.proofs.LineLemmas.{step_of-shorter}
@@ -24,31 +22,31 @@ use Rattle.depot_cli.proofs.LineLemmas.{step_of-shorter}
 pub replies-append : (desc : DescOf) (line : ℕ) (journal : List Entry) (items others : List Work)
     → replies desc line journal (items ++ others)
     ≡ replies desc line journal items
-    ++ replies desc (line + length items) (serial journal items) others
+    ++ replies desc (line + length items) (serial desc journal items) others
 replies-append desc line journal [] others =
     ap (λ (line : ℕ). replies desc line journal others) (omega arith)
 replies-append desc line journal (item ∷ items) others =
     ap (λ (more : List ℕ). reply desc line journal item ++ more)
-    (replies-append desc (line + 1) (journal_after journal item) items others)
+    (replies-append desc (line + 1) (journal_after desc journal item) items others)
     ∙ sym (append_assoc (reply desc line journal item) between
-    (replies desc (line + 1 + length items) (serial (journal_after journal item) items) others))
+    (replies desc (line + 1 + length items) (serial desc (journal_after desc journal item) items) others))
     ∙ ap (λ (line : ℕ). (first ++ between)
-    ++ replies desc line (serial (journal_after journal item) items) others) (omega arith)
+    ++ replies desc line (serial desc (journal_after desc journal item) items) others) (omega arith)
   where
     first : List ℕ
     first = reply desc line journal item
 
     between : List ℕ
-    between = replies desc (line + 1) (journal_after journal item) items
+    between = replies desc (line + 1) (journal_after desc journal item) items
 
 -- one reply more
 pub replies-push : (desc : DescOf) (items : List Work) (work : Work)
     → replies desc 1 [] (items ++ work ∷ [])
-    ≡ replies desc 1 [] items ++ reply desc (1 + length items) (serial [] items) work
+    ≡ replies desc 1 [] items ++ reply desc (1 + length items) (serial desc [] items) work
 replies-push desc items work =
     replies-append desc 1 [] items (work ∷ [])
     ∙ ap (λ (last : List ℕ). replies desc 1 [] items ++ last)
-    (append-nil (reply desc (1 + length items) (serial [] items) work))
+    (append-nil (reply desc (1 + length items) (serial desc [] items) work))
 
 -- a session with these items in front
 abbrev pub after_items : List Work → Session → Session
@@ -66,7 +64,7 @@ pub record HasServed (desc : DescOf) (base : ℕ) (whole : Session)
   pub enough : length rest ≤ turns
   pub goes_on : after_items items (session_from desc base (suc turns) taken rest) ≡ whole
   pub replied : Appends got_before got_now (replies desc 1 [] items)
-  pub journaled : journal ≡ serial [] items
+  pub journaled : journal ≡ serial desc [] items
   pub counted : line ≡ 1 + length items
   pub told : refused ≡ has_refused items
 
@@ -105,20 +103,6 @@ HasServed-init desc base (Some input) got journal taken is_new is_start =
     (subst (λ (journal : List Entry). P journal 0) (sym is_new)
     (HasServed-start desc base input got))
 
--- an item adds one entry at most
-pub length-journal_after : (journal : List Entry) (work : Work)
-    → length (journal_after journal work) ≤ length journal + 1
-length-journal_after journal work.Nothing = omega arith
-length-journal_after journal work.Refused = omega arith
-length-journal_after journal (work.Load delivery) = loaded (is_repeat journal delivery)
-  where
-    loaded : (repeat : Bool)
-        → length (if repeat then journal else journal ++ entry.Load delivery ∷ [])
-        ≤ length journal + 1
-    loaded true = omega arith
-    loaded false = omega (arith, length-append journal (entry.Load delivery ∷ []))
-length-journal_after journal (work.Query item) = omega arith
-
 -- what the session is from here on, at its next step
 session_next : (desc : DescOf) (base turns taken : ℕ) (rest : List ℕ) (items : List Work)
     (whole : Session) (step : Step)
@@ -152,7 +136,7 @@ pub HasServed-item : (desc : DescOf) (base : ℕ) (whole : Session)
     → IfSome left (λ bytes.
     IsStep (step_of desc base taken bytes) taken_next left_next (Ok (Some work)))
     → Appends got_now got_next (reply desc line journal work)
-    → journal_next ≡ journal_after journal work
+    → journal_next ≡ journal_after desc journal work
     → HasServed desc base whole got_before got_next journal_next (line + 1)
     (refused || is_refused work) taken_next left_next
 HasServed-item desc base whole got_before got_now got_next journal journal_next line refused
@@ -193,8 +177,8 @@ HasServed-item desc base whole got_before got_now got_next journal journal_next 
           served.journaled
           ∙ sym (replies-push desc served.items work));
       journaled = next
-          ∙ ap (λ (journal : List Entry). journal_after journal work) served.journaled
-          ∙ sym (fold-append journal_after [] served.items (work ∷ []));
+          ∙ ap (λ (journal : List Entry). journal_after desc journal work) served.journaled
+          ∙ sym (fold-append (journal_after desc) [] served.items (work ∷ []));
       counted = omega (arith, served.counted, length-append served.items (work ∷ []));
       told = ap (λ (refused : Bool). refused || is_refused work) served.told
           ∙ ap (λ (last : Bool). has_refused served.items || last)

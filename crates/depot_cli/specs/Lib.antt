@@ -5,6 +5,8 @@ pub mod Bodies
 pub mod Reading
 pub mod ScriptCalls
 pub mod SerialJournal
+pub mod KeptJournals
+pub mod JournalView
 pub mod Texts
 pub mod Replies
 pub mod Runs

@@ -6,8 +6,7 @@ use Rattle.depot_cell.specs.Numbers.{number_of}
 use Rattle.table_desc.specs.Descriptions.{DescOf}
 use Rattle.view_meaning.specs.declared.request.Item.{Item}
 use Rattle.view_meaning.specs.declared.request.Mark.TheVariants as mark
-use Rattle.view_meaning.specs.Partitions.{END, parts_met}
-use Rattle.view_meaning.specs.Shown.{width_of}
+use Rattle.view_meaning.specs.Partitions.{END, parts_met, width_of}
 use Rattle.depot_cli.specs.declared.order.Head.{Head}
 use Rattle.depot_cli.specs.declared.order.Order.{Order}
 use Rattle.depot_cli.specs.declared.order.Order.TheVariants as order
@@ -87,6 +86,7 @@ order_of_words desc (first ∷ others) =
     if begins_comment first then order.Nothing
     else if bytes_eq first (codes "deliver") then deliver_order desc others
     else if bytes_eq first (codes "query") then query_order desc others
+    else if bytes_eq first (codes "drain") && is_empty others then order.Drain
     else if bytes_eq first (codes "end") && is_empty others then order.End
     else order.Refused
 

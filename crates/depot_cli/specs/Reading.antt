@@ -111,6 +111,7 @@ body_step desc base taken head size (Body body rest) =
 abbrev pub order_step : DescOf → (base taken : ℕ) → Order → List ℕ → Step
 order_step desc base taken order.Nothing rest = Does work.Nothing taken rest
 order_step desc base taken (order.Query item) rest = Does (work.Query item) taken rest
+order_step desc base taken order.Drain rest = Does work.Drain taken rest
 order_step desc base taken order.End rest = Ends (Ended rest)
 order_step desc base taken order.Refused rest = Does work.Refused taken rest
 order_step desc base taken (order.Body head size) rest =

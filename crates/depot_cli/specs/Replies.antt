@@ -5,13 +5,13 @@ use Rattle.table_desc.specs.Deliveries.{DeliveryOf}
 use Rattle.table_desc.specs.Descriptions.{DescOf}
 use Rattle.view_meaning.specs.declared.journal.Entry.{Entry}
 use Rattle.view_meaning.specs.declared.journal.Loaded.{Loaded}
-use Rattle.view_meaning.specs.Journal.{accepted}
+use Rattle.view_meaning.specs.Journal.{accepted, is_repeat}
 use Rattle.view_meaning.specs.SetAside.{kept_rows, aside_rows}
 use Rattle.view_meaning.specs.Shown.{shown}
 use Rattle.depot_cli.specs.declared.work.Work.{Work}
 use Rattle.depot_cli.specs.declared.work.Work.TheVariants as work
-use Rattle.depot_cli.specs.SerialJournal.{is_repeat, journal_after}
-use Rattle.depot_cli.specs.Texts.{feed_name, table_name, loaded_text, repeat_text, refused_text, answer_text}
+use Rattle.depot_cli.specs.SerialJournal.{journal_after}
+use Rattle.depot_cli.specs.Texts.{feed_name, table_name, loaded_text, repeat_text, refused_text, drained_text, answer_text}
 
 -- what loading a delivery behind a journal does
 abbrev pub loaded : DescOf → List Entry → DeliveryOf → Loaded
@@ -32,6 +32,8 @@ abbrev pub reply : DescOf → (line : ℕ) → List Entry → Work → List ℕ
 reply desc line journal work.Nothing = []
 reply desc line journal work.Refused = refused_text line
 reply desc line journal (work.Load delivery) = load_reply desc journal delivery
+reply desc line journal work.Drain =
+    drained_text (length (journal_after desc journal work.Drain))
 reply desc line journal (work.Query item) =
     answer_text (table_name desc item.table) (length journal) (shown desc journal item)
 
@@ -40,13 +42,14 @@ reply desc line journal (work.Query item) =
 abbrev pub replies : DescOf → (line : ℕ) → List Entry → List Work → List ℕ
 replies desc line journal [] = []
 replies desc line journal (item ∷ items) =
-    reply desc line journal item ++ replies desc (line + 1) (journal_after journal item) items
+    reply desc line journal item ++ replies desc (line + 1) (journal_after desc journal item) items
 
 -- whether an item is refused
 abbrev pub is_refused : Work → Bool
 is_refused work.Nothing = false
 is_refused work.Refused = true
 is_refused (work.Load _) = false
+is_refused work.Drain = false
 is_refused (work.Query _) = false
 
 -- whether a `refused` reply is among those to the items

@@ -66,6 +66,7 @@ abbrev pub IsAnswerable : Work → Type 0
 IsAnswerable work.Nothing = ⊤
 IsAnswerable work.Refused = ⊤
 IsAnswerable (work.Load _) = ⊤
+IsAnswerable work.Drain = ⊤
 IsAnswerable (work.Query item) = (item.from ≤ item.to) × (item.to ≤ END)
 
 -- the status of a script that was not read on

@@ -1,29 +1,30 @@
 -- The journal that the items of a script make, taken in order.
-use Rattle.std.specs.Prelude.{List, [], ◌∷◌, ◌++◌, Bool, ◌==◌, ◌&&◌, if◌then◌else◌, fold}
-use Rattle.std.specs.List.{list_any}
-use Rattle.table_desc.specs.Deliveries.{DeliveryOf}
+use Rattle.std.specs.Prelude.{List, [], ◌∷◌, ◌++◌, if◌then◌else◌, fold}
+use Rattle.table_desc.specs.Descriptions.{DescOf}
 use Rattle.view_meaning.specs.declared.journal.Entry.{Entry}
 use Rattle.view_meaning.specs.declared.journal.Entry.TheVariants as entry
-use Rattle.view_meaning.specs.Journal.{accepted}
+use Rattle.view_meaning.specs.Partitions.{HasEarlierSources}
+use Rattle.view_meaning.specs.Journal.{is_repeat}
+use Rattle.view_meaning.specs.LegalJournals.{IsLegal}
+use Rattle.view_meaning.specs.Drains.{drained}
 use Rattle.depot_cli.specs.declared.work.Work.{Work}
 use Rattle.depot_cli.specs.declared.work.Work.TheVariants as work
 
--- whether two deliveries are of one feed and number
-abbrev pub is_same : DeliveryOf → DeliveryOf → Bool
-is_same delivery other = (other.feed == delivery.feed) && (other.number == delivery.number)
-
--- whether the feed of a delivery has accepted its number
-abbrev pub is_repeat : List Entry → DeliveryOf → Bool
-is_repeat journal delivery = list_any (is_same delivery) (accepted journal)
-
--- the journal after an item: a delivery that is no repeat is loaded, and nothing else changes it
-abbrev pub journal_after : List Entry → Work → List Entry
-journal_after journal work.Nothing = journal
-journal_after journal work.Refused = journal
-journal_after journal (work.Load delivery) =
+-- the journal after an item: a delivery that is no repeat is loaded, a drain installs each partition
+-- of a view that is not settled, and nothing else changes it
+abbrev pub journal_after : DescOf → List Entry → Work → List Entry
+journal_after desc journal work.Nothing = journal
+journal_after desc journal work.Refused = journal
+journal_after desc journal (work.Load delivery) =
     if is_repeat journal delivery then journal else journal ++ entry.Load delivery ∷ []
-journal_after journal (work.Query _) = journal
+journal_after desc journal work.Drain = drained desc journal
+journal_after desc journal (work.Query _) = journal
 
 -- the journal after items, from this one on
-abbrev pub serial : List Entry → List Work → List Entry
-serial journal items = fold journal_after journal items
+abbrev pub serial : DescOf → List Entry → List Work → List Entry
+serial desc journal items = fold (journal_after desc) journal items
+
+-- the journal that items make is legal
+abbrev pub HasLegalSerial : Type 0
+HasLegalSerial = (desc : DescOf) (items : List Work) → HasEarlierSources desc
+    → IsLegal desc (serial desc [] items)

@@ -49,6 +49,10 @@ repeat_text feed number = codes "repeat " ++ feed ++ codes " " ++ decimal number
 abbrev pub refused_text : (line : ℕ) → List ℕ
 refused_text line = codes "refused " ++ decimal line ++ codes " later" ++ line_end
 
+-- all was computed, up to this place of the journal
+abbrev pub drained_text : (place : ℕ) → List ℕ
+drained_text place = codes "drained at " ++ decimal place ++ line_end
+
 -- the word of a mark
 abbrev pub mark_text : Mark → List ℕ
 mark_text mark.Open = codes "open"

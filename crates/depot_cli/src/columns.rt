@@ -1,13 +1,13 @@
-//! The columns of a table: words `NAME:TYPE`.
+//! The columns of a table: those that words `NAME:TYPE` declare, and those that a view keeps.
 
-ghost use Rattle.std.specs.Prelude.{◌≡◌, ◌<◌, length, map, option_map, position, IfOk, IfSome};
+ghost use Rattle.std.specs.Prelude.{◌≡◌, ◌<◌, ◌≤◌, ◌++◌, [], ◌∷◌, length, map, option_map, position, IfOk, IfSome, OnOk};
 ghost use Rattle.std.specs.Str.{bytes_eq};
 ghost use Rattle.std.specs.List.{list_any};
-ghost use Rattle.depot_cli.specs.Description.{are_columns, are_different, column_from, column_of, columns_of, is_colon, is_int, time_named, ty_named};
+ghost use Rattle.depot_cli.specs.Description.{are_columns, are_different, column_from, column_named, column_of, columns_of, is_colon, is_int, kept_columns, time_named, ty_named};
 
 use crate::names::{is_name, name_text};
 use crate::words::is_word;
-use depot_cell::{Memory, Ty};
+use depot_cell::{Memory, Str, Ty};
 use std::alloc::Global;
 use table_desc::Column;
 
@@ -23,10 +23,7 @@ pub fn columns_of(alloc: Global, words: &[&[u8]]) -> Result<Option<Vec<Column>>,
     let mut columns = Vec::new(alloc);
     for word in words {
         match column_of(alloc, word)? {
-            Some(column) => match columns.push(column) {
-                Ok(()) => {}
-                Err(_) => return Err(Memory),
-            },
+            Some(column) => push_column(&mut columns, column)?,
             None => return Ok(None),
         }
     }
@@ -99,6 +96,62 @@ fn is_declared(columns: &[Column], name: &[u8]) -> bool
     columns
         .iter()
         .any(|column| is_word(name, column.name.as_bytes()))
+}
+
+/// The columns with these numbers.
+pub fn kept_columns(
+    alloc: Global,
+    columns: &[Column],
+    numbers: &[u16],
+) -> Result<Vec<Column>, Memory>
+    ensures exact { IfOk result (λ kept. kept.items ≡ kept_columns columns.now numbers.now) }
+{
+    let mut kept = Vec::new(alloc);
+    for number in numbers {
+        if let Some(column) = columns.get(usize::from(*number)) {
+            push_column(&mut kept, copy_column(alloc, column)?)?;
+        }
+    }
+    Ok(kept)
+}
+
+fn push_column(columns: &mut Vec<Column>, column: Column) -> Result<(), Memory>
+    ensures ok { OnOk result (columns.new.items ≡ columns.old.items ++ column ∷ []) }
+{
+    match columns.push(column) {
+        Ok(()) => Ok(()),
+        Err(_) => Err(Memory),
+    }
+}
+
+fn copy_column(alloc: Global, column: &Column) -> Result<Column, Memory>
+    ensures exact { IfOk result (λ copy. copy ≡ column.now) }
+{
+    Ok(Column {
+        name: Str::from_bytes(alloc, column.name.as_bytes())?,
+        ty: column.ty,
+    })
+}
+
+/// The number of the column with this name.
+pub fn column_named(columns: &[Column], name: &[u8]) -> Option<u16>
+    requires few { length columns.now ≤ 16 }
+    ensures exact { result ≡ column_named columns.now name.now }
+    ensures there { IfSome result (λ column. column < length columns.now) }
+{
+    match place_of_column(columns, name) {
+        Some(column) => Some(column as u16),
+        None => None,
+    }
+}
+
+fn place_of_column(columns: &[Column], name: &[u8]) -> Option<usize>
+    ensures exact { result ≡ position (λ column. bytes_eq column.name name.now) columns.now }
+    ensures there { IfSome result (λ column. column < length columns.now) }
+{
+    columns
+        .iter()
+        .position(|column| is_word(column.name.as_bytes(), name))
 }
 
 /// The number of the int column with this name.

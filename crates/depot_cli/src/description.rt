@@ -1,11 +1,12 @@
 //! A description, read line by line.
 
-ghost use Rattle.std.specs.Prelude.{◌≡◌, ◌<◌, ◌^◌, ◌+◌, [], ◌∷◌, ◌++◌, is_some, length, map, unwrap_or, IfOk, OnErr, OnOk};
+ghost use Rattle.std.specs.Prelude.{◌≡◌, ◌<◌, ◌^◌, ◌+◌, [], ◌∷◌, ◌++◌, is_some, length, map, unwrap_or, IfOk, IsTrue, OnErr, OnOk};
 ghost use Rattle.std.specs.Bool.{OnTrue};
-ghost use Rattle.depot_cli.specs.Description.{Described, IsSmall, declared_by, is_free, nothing_described, raw_read, with_declared, with_feed, with_line, with_table};
+ghost use Rattle.depot_cli.specs.Description.{Described, IsNextTable, IsServed, declared_by, is_free, is_name, nothing_described, table_said, with_declared, with_feed, with_line, with_table};
 
+use crate::filter::filter_said;
 use crate::names::{is_name, name_text, table_named};
-use crate::raw_table::{are_raw_keywords, raw_read};
+use crate::raw_table::raw_said;
 use crate::words::{is_skipped, is_word, words_of};
 use depot_cell::Memory;
 use std::alloc::Global;
@@ -25,13 +26,13 @@ pub struct Draft {
 }
 
 impl Model for Draft {
-    ghost use Rattle.depot_cli.specs.Description.{Described, IsSmall};
+    ghost use Rattle.depot_cli.specs.Description.{Described, IsServed};
 
     ghost Value = { Described };
 
     ghost view = { λ draft. record { desc = draft.desc; lines = draft.lines; bad = draft.bad } };
 
-    ghost invariant = { λ draft. IsSmall draft.desc };
+    ghost invariant = { λ draft. IsServed draft.desc };
 }
 
 impl Draft {
@@ -90,53 +91,36 @@ impl Draft {
     /// What the lines before the first bad one declare: at most one feed, and at most 64 tables.
     pub fn into_desc(self) -> Desc
         ensures exact { result ≡ self.desc }
-        ensures small { IsSmall result }
+        ensures served { IsServed result }
     {
         self.desc
     }
 }
 
 fn declare(alloc: Global, desc: &mut Desc, words: &[&[u8]]) -> Result<bool, Memory>
-    requires small { IsSmall desc.old }
+    requires served { IsServed desc.old }
     ensures told { IfOk result (λ told. told ≡
         is_some (declared_by desc.old (map (λ word. word.now) words.now))) }
     ensures ok { OnOk result (desc.new ≡
         unwrap_or (declared_by desc.old (map (λ word. word.now) words.now)) desc.old) }
     ensures err { OnErr result (desc.new ≡ desc.old) }
-    ensures small { IsSmall desc.new }
+    ensures served { IsServed desc.new }
 {
     match words {
         [keyword, name] => declare_feed(alloc, desc, keyword, name),
-        [
-            raw,
-            name,
-            feed,
-            of_feed,
-            width,
-            ticks,
-            time,
-            of_time,
-            cols,
-            columns @ ..,
-        ] => {
-            if are_raw_keywords(raw, feed, width, time, cols) {
-                declare_raw(alloc, desc, name, of_feed, ticks, of_time, columns)
-            } else {
-                Ok(false)
-            }
-        }
+        [keyword, name, words @ ..] => declare_table(alloc, desc, keyword, name, words),
         _ => Ok(false),
     }
 }
 
 fn declare_feed(alloc: Global, desc: &mut Desc, keyword: &[u8], name: &[u8]) -> Result<bool, Memory>
-    requires small { IsSmall desc.old }
+    requires served { IsServed desc.old }
     ensures told { IfOk result (λ told. told ≡
         is_some (declared_by desc.old (keyword.now ∷ name.now ∷ []))) }
     ensures ok { OnOk result (desc.new ≡
         unwrap_or (declared_by desc.old (keyword.now ∷ name.now ∷ [])) desc.old) }
     ensures err { OnErr result (desc.new ≡ desc.old) }
-    ensures small { IsSmall desc.new }
+    ensures served { IsServed desc.new }
 {
     if !is_word(keyword, b"feed") || !desc.feeds.is_empty() || !is_name(name) {
         return Ok(false);
@@ -151,28 +135,25 @@ fn declare_feed(alloc: Global, desc: &mut Desc, keyword: &[u8], name: &[u8]) -> 
     }
 }
 
-fn declare_raw(
+fn declare_table(
     alloc: Global,
     desc: &mut Desc,
+    keyword: &[u8],
     name: &[u8],
-    feed: &[u8],
-    width: &[u8],
-    time: &[u8],
-    columns: &[&[u8]],
+    words: &[&[u8]],
 ) -> Result<bool, Memory>
-    requires small { IsSmall desc.old }
-    ensures told { IfOk result (λ told. told ≡ is_some (with_table desc.old name.now (raw_read
-        desc.old name.now feed.now width.now time.now (map (λ word. word.now) columns.now)))) }
-    ensures ok { OnOk result (desc.new ≡ unwrap_or (with_table desc.old name.now (raw_read
-        desc.old name.now feed.now width.now time.now (map (λ word. word.now) columns.now)))
-        desc.old) }
+    requires served { IsServed desc.old }
+    ensures told { IfOk result (λ told. told ≡ is_some (with_table desc.old name.now
+        (table_said desc.old keyword.now name.now (map (λ word. word.now) words.now)))) }
+    ensures ok { OnOk result (desc.new ≡ unwrap_or (with_table desc.old name.now
+        (table_said desc.old keyword.now name.now (map (λ word. word.now) words.now))) desc.old) }
     ensures err { OnErr result (desc.new ≡ desc.old) }
-    ensures small { IsSmall desc.new }
+    ensures served { IsServed desc.new }
 {
     if !is_free(desc, name) {
         return Ok(false);
     }
-    match raw_read(alloc, desc, name, feed, width, time, columns)? {
+    match table_said(alloc, desc, keyword, name, words)? {
         Some(table) => {
             push_table(desc, table)?;
             Ok(true)
@@ -181,13 +162,35 @@ fn declare_raw(
     }
 }
 
+fn table_said(
+    alloc: Global,
+    desc: &Desc,
+    keyword: &[u8],
+    name: &[u8],
+    words: &[&[u8]],
+) -> Result<Option<Table>, Memory>
+    requires served { IsServed desc.now }
+    requires named { IsTrue (is_name name.now) }
+    ensures exact { IfOk result (λ table. table ≡
+        table_said desc.now keyword.now name.now (map (λ word. word.now) words.now)) }
+{
+    if is_word(keyword, b"raw") {
+        raw_said(alloc, desc, name, words)
+    } else if is_word(keyword, b"view") {
+        filter_said(alloc, desc, name, words)
+    } else {
+        Ok(None)
+    }
+}
+
 fn push_table(desc: &mut Desc, table: Table) -> Result<(), Memory>
-    requires small { IsSmall desc.old }
+    requires served { IsServed desc.old }
     requires room { length desc.old.tables < 64 }
+    requires next { IsNextTable desc.old table }
     ensures ok { OnOk result (desc.new ≡
         record desc.old { tables = desc.old.tables ++ table ∷ [] }) }
     ensures err { OnErr result (desc.new ≡ desc.old) }
-    ensures small { IsSmall desc.new }
+    ensures served { IsServed desc.new }
 {
     match desc.tables.push(table) {
         Ok(()) => Ok(()),
@@ -196,7 +199,7 @@ fn push_table(desc: &mut Desc, table: Table) -> Result<(), Memory>
 }
 
 fn is_free(desc: &Desc, name: &[u8]) -> bool
-    requires small { IsSmall desc.now }
+    requires served { IsServed desc.now }
     ensures exact { result ≡ is_free desc.now name.now }
     ensures room { OnTrue result (length desc.now.tables < 64) }
 {

@@ -7,7 +7,10 @@
 mod body;
 mod columns;
 mod description;
+mod drain;
+mod filter;
 mod journal;
+mod laws;
 mod names;
 mod order;
 mod raw_table;
@@ -16,17 +19,24 @@ mod rows_text;
 mod run;
 mod script;
 mod session;
+mod sieve;
 mod status;
+mod step;
 #[cfg(test)]
 mod tests_lines;
 #[cfg(test)]
 mod tests_rows;
 #[cfg(test)]
 mod tests_run;
+#[cfg(test)]
+mod tests_views;
 mod texts;
+mod version;
+mod versions;
 mod words;
 mod work;
 
+pub use crate::laws::serial_is_legal;
 pub use crate::run::run;
 pub use crate::status::{DescCause, InputEnd, Status};
 use depot_io::{StdSink, StdSource};

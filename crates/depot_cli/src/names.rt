@@ -3,7 +3,7 @@
 ghost use Rattle.std.specs.Prelude.{◌≡◌, ◌<◌, length, position, IfOk, IfSome, IsTrue};
 ghost use Rattle.std.specs.Str.{bytes_eq};
 ghost use Rattle.std.specs.List.{list_all, list_any};
-ghost use Rattle.depot_cli.specs.Description.{IsSmall, begins_name, feed_named, is_letter, is_name, is_name_byte, reserved, table_named};
+ghost use Rattle.depot_cli.specs.Description.{IsServed, begins_name, feed_named, is_letter, is_name, is_name_byte, reserved, table_named};
 
 use crate::words::is_word;
 use depot_cell::{Memory, Str};
@@ -70,7 +70,7 @@ pub fn name_text(alloc: Global, name: &[u8]) -> Result<Str, Memory>
 
 /// The number of the feed with this name.
 pub fn feed_named(desc: &Desc, name: &[u8]) -> Option<u16>
-    requires small { IsSmall desc.now }
+    requires served { IsServed desc.now }
     ensures exact { result ≡ feed_named desc.now name.now }
 {
     match place_of_feed(&desc.feeds, name) {
@@ -90,7 +90,7 @@ fn place_of_feed(feeds: &[Feed], name: &[u8]) -> Option<usize>
 
 /// The number of the table with this name.
 pub fn table_named(desc: &Desc, name: &[u8]) -> Option<u16>
-    requires small { IsSmall desc.now }
+    requires served { IsServed desc.now }
     ensures exact { result ≡ table_named desc.now name.now }
     ensures there { IfSome result (λ table. table < length desc.now.tables) }
 {

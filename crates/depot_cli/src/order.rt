@@ -1,11 +1,10 @@
 //! What a session line asks for.
 
-ghost use Rattle.std.specs.Prelude.{◌≡◌, ◌<◌, ◌≤◌, ◌&&◌, codes, length, map, slice_get, IfOk, IfSome};
+ghost use Rattle.std.specs.Prelude.{◌≡◌, ◌<◌, ◌≤◌, ◌&&◌, length, map, slice_get, IfOk, IfSome};
 ghost use Rattle.std.specs.Str.{bytes_eq};
-ghost use Rattle.view_meaning.specs.Partitions.{parts_met, END as the_end};
-ghost use Rattle.view_meaning.specs.Shown.{width_of};
+ghost use Rattle.view_meaning.specs.Partitions.{parts_met, width_of, END as the_end};
 ghost use Rattle.depot_cli.specs.Words.{is_empty};
-ghost use Rattle.depot_cli.specs.Description.{IsSmall};
+ghost use Rattle.depot_cli.specs.Description.{IsServed};
 ghost use Rattle.depot_cli.specs.Orders.{deliver_order, asked, head_of, item_of, item_read, number_below, order_of, order_of_words, query_order, sized};
 
 use crate::names::{feed_named, table_named};
@@ -33,6 +32,8 @@ pub struct Head {
 pub enum Order {
     /// Nothing: the line is empty or a comment.
     Nothing,
+    /// To compute all that is not settled.
+    Drain,
     /// The answer to a query.
     Query(Item),
     /// The end of the session.
@@ -48,7 +49,7 @@ pub enum Order {
 
 /// What a line asks for, which is given without its LF.
 pub fn read_order(alloc: Global, desc: &Desc, line: &[u8]) -> Result<Order, Memory>
-    requires small { IsSmall desc.now }
+    requires served { IsServed desc.now }
     ensures exact { IfOk result (λ order. order ≡ order_of desc.now line.now) }
 {
     match words_of(alloc, line) {
@@ -58,7 +59,7 @@ pub fn read_order(alloc: Global, desc: &Desc, line: &[u8]) -> Result<Order, Memo
 }
 
 fn order_of_words(desc: &Desc, words: &[&[u8]]) -> Order
-    requires small { IsSmall desc.now }
+    requires served { IsServed desc.now }
     ensures exact { result ≡ order_of_words desc.now (map (λ word. word.now) words.now) }
 {
     match words {
@@ -70,7 +71,9 @@ fn order_of_words(desc: &Desc, words: &[&[u8]]) -> Order
                 deliver_order(desc, others)
             } else if is_word(first, b"query") {
                 query_order(desc, others)
-            } else if is_end(first, others) {
+            } else if is_alone(first, others, b"drain") {
+                Order::Drain
+            } else if is_alone(first, others, b"end") {
                 Order::End
             } else {
                 Order::Refused
@@ -79,15 +82,16 @@ fn order_of_words(desc: &Desc, words: &[&[u8]]) -> Order
     }
 }
 
-fn is_end(first: &[u8], others: &[&[u8]]) -> bool
+/// Whether a line is this one word.
+fn is_alone(first: &[u8], others: &[&[u8]], word: &[u8]) -> bool
     ensures exact { result ≡
-        (bytes_eq first.now (codes "end") && is_empty (map (λ word. word.now) others.now)) }
+        (bytes_eq first.now word.now && is_empty (map (λ word. word.now) others.now)) }
 {
-    is_word(first, b"end") && others.is_empty()
+    is_word(first, word) && others.is_empty()
 }
 
 fn deliver_order(desc: &Desc, words: &[&[u8]]) -> Order
-    requires small { IsSmall desc.now }
+    requires served { IsServed desc.now }
     ensures exact { result ≡ deliver_order desc.now (map (λ word. word.now) words.now) }
 {
     match words {
@@ -109,7 +113,7 @@ fn sized(head: Option<Head>, size: Option<u64>) -> Order
 }
 
 fn head_of(desc: &Desc, feed: &[u8], number: &[u8], closes: &[u8]) -> Option<Head>
-    requires small { IsSmall desc.now }
+    requires served { IsServed desc.now }
     ensures exact { result ≡ head_of desc.now feed.now number.now closes.now }
 {
     let feed = feed_named(desc, feed)?;
@@ -119,7 +123,7 @@ fn head_of(desc: &Desc, feed: &[u8], number: &[u8], closes: &[u8]) -> Option<Hea
 }
 
 fn query_order(desc: &Desc, words: &[&[u8]]) -> Order
-    requires small { IsSmall desc.now }
+    requires served { IsServed desc.now }
     ensures exact { result ≡ query_order desc.now (map (λ word. word.now) words.now) }
 {
     match words {
@@ -138,7 +142,7 @@ fn asked(item: Option<Item>) -> Order
 }
 
 fn item_read(desc: &Desc, table: &[u8], from: &[u8], to: &[u8]) -> Option<Item>
-    requires small { IsSmall desc.now }
+    requires served { IsServed desc.now }
     ensures exact { result ≡ item_read desc.now table.now from.now to.now }
 {
     let table = table_named(desc, table)?;

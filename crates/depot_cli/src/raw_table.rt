@@ -2,7 +2,7 @@
 
 ghost use Rattle.std.specs.Prelude.{◌≡◌, map, IfOk, IsTrue};
 ghost use Rattle.std.specs.Str.{bytes_eq};
-ghost use Rattle.depot_cli.specs.Description.{IsSmall, are_raw_keywords, is_name, raw_read, raw_table, width_said};
+ghost use Rattle.depot_cli.specs.Description.{IsServed, are_raw_keywords, is_name, raw_read, raw_said, raw_table, width_said};
 
 use crate::columns::{are_columns, columns_of, time_named};
 use crate::names::{feed_named, name_text};
@@ -11,19 +11,49 @@ use depot_cell::{Memory, read_number};
 use std::alloc::Global;
 use table_desc::{Column, Desc, END, Kind, Table, Width};
 
-/// Whether these are the keywords of a raw table's line, in order.
-pub fn are_raw_keywords(raw: &[u8], feed: &[u8], width: &[u8], time: &[u8], cols: &[u8]) -> bool
-    ensures exact { result ≡ are_raw_keywords raw.now feed.now width.now time.now cols.now }
+/// The raw table with this name that words say: `feed F width W time C cols C:TYPE ..`.
+pub fn raw_said(
+    alloc: Global,
+    desc: &Desc,
+    name: &[u8],
+    words: &[&[u8]],
+) -> Result<Option<Table>, Memory>
+    requires served { IsServed desc.now }
+    requires named { IsTrue (is_name name.now) }
+    ensures exact { IfOk result (λ table.
+        table ≡ raw_said desc.now name.now (map (λ word. word.now) words.now)) }
 {
-    is_word(raw, b"raw")
-        && is_word(feed, b"feed")
+    match words {
+        [
+            feed,
+            of_feed,
+            width,
+            ticks,
+            time,
+            of_time,
+            cols,
+            columns @ ..,
+        ] => {
+            if are_raw_keywords(feed, width, time, cols) {
+                raw_read(alloc, desc, name, of_feed, ticks, of_time, columns)
+            } else {
+                Ok(None)
+            }
+        }
+        _ => Ok(None),
+    }
+}
+
+fn are_raw_keywords(feed: &[u8], width: &[u8], time: &[u8], cols: &[u8]) -> bool
+    ensures exact { result ≡ are_raw_keywords feed.now width.now time.now cols.now }
+{
+    is_word(feed, b"feed")
         && is_word(width, b"width")
         && is_word(time, b"time")
         && is_word(cols, b"cols")
 }
 
-/// The raw table with this name whose other parts are words, or none where one of them is wrong.
-pub fn raw_read(
+fn raw_read(
     alloc: Global,
     desc: &Desc,
     name: &[u8],
@@ -32,7 +62,7 @@ pub fn raw_read(
     time: &[u8],
     columns: &[&[u8]],
 ) -> Result<Option<Table>, Memory>
-    requires small { IsSmall desc.now }
+    requires served { IsServed desc.now }
     requires named { IsTrue (is_name name.now) }
     ensures exact { IfOk result (λ table. table ≡ raw_read desc.now name.now
         feed.now width.now time.now (map (λ word. word.now) columns.now)) }
@@ -52,7 +82,7 @@ fn raw_table(
     time: &[u8],
     columns: Vec<Column>,
 ) -> Result<Option<Table>, Memory>
-    requires small { IsSmall desc.now }
+    requires served { IsServed desc.now }
     requires named { IsTrue (is_name name.now) }
     ensures exact { IfOk result (λ table. table ≡
         raw_table desc.now name.now feed.now width.now time.now columns.items) }
@@ -81,7 +111,8 @@ fn raw_table(
     }))
 }
 
-fn width_said(word: &[u8]) -> Option<Width>
+/// The width that a word says.
+pub fn width_said(word: &[u8]) -> Option<Width>
     ensures exact { result ≡ width_said word.now }
 {
     match read_number(word) {

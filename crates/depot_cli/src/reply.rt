@@ -1,28 +1,32 @@
 //! What is done for each item of a script, and what is written in reply.
 
-ghost use Rattle.std.specs.Prelude.{◌≡◌, ◌+◌, ◌<◌, ◌≤◌, ◌^◌, ◌++◌, length, map, flat_map, IfOk, OnOk, OnErr, slice_get, option_copied, Some};
+ghost use Rattle.std.specs.Prelude.{◌≡◌, ◌+◌, ◌<◌, ◌≤◌, ◌^◌, ◌++◌, true, false, length, map, flat_map, IfOk, OnOk, slice_get, option_copied, Some};
 ghost use Rattle.view_meaning.specs.Partitions.{END};
 ghost use Rattle.view_meaning.specs.Shown.{shown, shown_part};
-ghost use Rattle.view_meaning.specs.Versions.{is_raw_kind, version};
+ghost use Rattle.view_meaning.specs.Versions.{is_raw_kind};
+ghost use Rattle.view_meaning.specs.Drains.{drained};
 ghost use Rattle.std.specs.List.{range_with_len};
 ghost use Rattle.table_desc.specs.Kinds.{kind_of};
 ghost use Rattle.depot_cli.specs.declared.work.Work.TheVariants as work;
 ghost use Rattle.depot_cli.specs.ScriptCalls.{IsAnswerable};
+ghost use Rattle.depot_cli.specs.Description.{IsServed};
+ghost use Rattle.depot_cli.specs.KeptJournals.{IsKept};
 ghost use Rattle.depot_cli.specs.SerialJournal.{journal_after};
-ghost use Rattle.depot_cli.specs.Texts.{answer_text, feed_name, shown_text, table_name};
+ghost use Rattle.depot_cli.specs.Texts.{answer_text, drained_text, feed_name, shown_text, table_name};
 ghost use Rattle.depot_cli.specs.Replies.{load_reply, reply};
 
+use crate::drain::drain;
 use crate::journal::Journal;
 use crate::rows_text::rows_text;
-use crate::texts::{answer_line, loaded_text, part_text, refused_text, repeat_text};
+use crate::texts::{answer_line, drained_text, loaded_text, part_text, refused_text, repeat_text};
 use crate::work::Work;
-use depot_cell::Memory;
+use depot_cell::{Memory, Rows};
 use std::alloc::Global;
 use table_desc::{Delivery, Desc, Key, Kind, Table};
 use view_meaning::{Item, Loaded, Mark, Parts, PinItem, plain_parts, plain_value, plain_version};
 
 /// Does what an item asks for, and makes the text of the reply. `line` is the item's line, from 1.
-/// Where there is no memory nothing is done.
+/// Where there is no memory, a drain may have done a part of its work.
 pub fn answer(
     alloc: Global,
     desc: &Desc,
@@ -30,16 +34,20 @@ pub fn answer(
     journal: &mut Journal,
     work: Work,
 ) -> Result<Vec<u8>, Memory>
-    requires few { length journal.old < 2 ^ 63 }
+    requires served { IsServed desc.now }
+    requires kept { IsKept desc.now journal.old }
     requires in_range { IsAnswerable work }
-    ensures exact { IfOk result (λ text. text.items ≡ reply desc.now line journal.old work) }
-    ensures ok { OnOk result (journal.new ≡ journal_after journal.old work) }
-    ensures err { OnErr result (journal.new ≡ journal.old) }
+    ensures exact { IfOk result (λ text.
+        text.items ≡ reply desc.now line journal.old.entries work) }
+    ensures ok { OnOk result
+        (journal.new.entries ≡ journal_after desc.now journal.old.entries work) }
+    ensures kept { OnOk result (IsKept desc.now journal.new) }
 {
     match work {
         Work::Nothing => Ok(Vec::new(alloc)),
         Work::Refused => refused_text(alloc, line),
         Work::Load(delivery) => load(alloc, desc, journal, delivery),
+        Work::Drain => drain_text(alloc, desc, journal),
         Work::Query(item) => query_text(alloc, desc, journal, item),
     }
 }
@@ -51,10 +59,12 @@ fn load(
     journal: &mut Journal,
     delivery: Delivery,
 ) -> Result<Vec<u8>, Memory>
-    requires few { length journal.old < 2 ^ 63 }
-    ensures exact { IfOk result (λ text. text.items ≡ load_reply desc.now journal.old delivery) }
-    ensures ok { OnOk result (journal.new ≡ journal_after journal.old (work.Load delivery)) }
-    ensures err { OnErr result (journal.new ≡ journal.old) }
+    requires kept { IsKept desc.now journal.old }
+    ensures exact { IfOk result (λ text.
+        text.items ≡ load_reply desc.now journal.old.entries delivery) }
+    ensures ok { OnOk result (journal.new.entries
+        ≡ journal_after desc.now journal.old.entries (work.Load delivery)) }
+    ensures kept { OnOk result (IsKept desc.now journal.new) }
 {
     let feed = feed_name(desc, delivery.feed);
     if journal.has(&delivery) {
@@ -70,6 +80,19 @@ fn load(
     Ok(text)
 }
 
+/// Computes all that is not settled, and tells the place.
+fn drain_text(alloc: Global, desc: &Desc, journal: &mut Journal) -> Result<Vec<u8>, Memory>
+    requires served { IsServed desc.now }
+    requires kept { IsKept desc.now journal.old }
+    ensures exact { IfOk result (λ text.
+        text.items ≡ drained_text (length (drained desc.now journal.old.entries))) }
+    ensures ok { OnOk result (journal.new.entries ≡ drained desc.now journal.old.entries) }
+    ensures kept { OnOk result (IsKept desc.now journal.new) }
+{
+    drain(alloc, desc, journal)?;
+    drained_text(alloc, journal.len())
+}
+
 /// The name of a feed.
 fn feed_name(desc: &Desc, feed: u16) -> &[u8]
     ensures { result.now ≡ feed_name desc.now feed }
@@ -82,11 +105,12 @@ fn feed_name(desc: &Desc, feed: u16) -> &[u8]
 
 /// The answer to a query: the partitions of its table that it asks for, each with its rows.
 fn query_text(alloc: Global, desc: &Desc, journal: &Journal, item: Item) -> Result<Vec<u8>, Memory>
+    requires kept { IsKept desc.now journal.now }
     requires in_order { item.from ≤ item.to }
     requires in_time { item.to ≤ END }
     ensures exact { IfOk result (λ text. text.items
-        ≡ answer_text (table_name desc.now item.table) (length journal.now)
-        (shown desc.now journal.now item)) }
+        ≡ answer_text (table_name desc.now item.table) (length journal.now.entries)
+        (shown desc.now journal.now.entries item)) }
 {
     let table = match table_at(desc, item.table) {
         Some(table) => table,
@@ -115,11 +139,12 @@ fn put_parts(
     parts: Parts,
     text: &mut Vec<u8>,
 ) -> Result<(), Memory>
+    requires kept { IsKept desc.now journal.now }
     requires there { slice_get desc.now.tables number ≡ Some table.now }
     requires in_time { parts.first + parts.count < 2 ^ 64 }
     ensures ok { OnOk result (text.new.items ≡ text.old.items
-        ++ flat_map (shown_text table.now.name)
-        (map (λ part. shown_part desc.now journal.now (record { table = number; part = part }))
+        ++ flat_map (shown_text table.now.name) (map
+        (λ part. shown_part desc.now journal.now.entries (record { table = number; part = part }))
         (range_with_len parts.first parts.count))) }
 {
     'parts: for part in parts.first..parts.first + parts.count {
@@ -144,36 +169,93 @@ fn shown_text(
     table: &Table,
     key: Key,
 ) -> Result<Vec<u8>, Memory>
+    requires kept { IsKept desc.now journal.now }
     requires there { slice_get desc.now.tables key.table ≡ Some table.now }
     ensures exact { IfOk result (λ text. text.items
-        ≡ shown_text table.now.name (shown_part desc.now journal.now key)) }
+        ≡ shown_text table.now.name (shown_part desc.now journal.now.entries key)) }
+{
+    if is_raw(&table.kind) {
+        raw_text(alloc, desc, journal, table, key)
+    } else {
+        view_text(alloc, desc, journal, table, key)
+    }
+}
+
+/// One partition of a raw table: its rows are those of all deliveries.
+fn raw_text(
+    alloc: Global,
+    desc: &Desc,
+    journal: &Journal,
+    table: &Table,
+    key: Key,
+) -> Result<Vec<u8>, Memory>
+    requires there { slice_get desc.now.tables key.table ≡ Some table.now }
+    requires raw { is_raw_kind table.now.kind ≡ true }
+    ensures exact { IfOk result (λ text. text.items
+        ≡ shown_text table.now.name (shown_part desc.now journal.now.entries key)) }
 {
     let rows = plain_value(alloc, desc, journal.accepted(), key)?;
     let item = PinItem {
         key,
-        version: version(desc, journal, table, key),
+        version: plain_version(desc, journal.accepted(), key),
         upto: journal.len(),
         mark: Mark::Open,
     };
-    let count = rows.rows().len() as u64;
-    let mut text = part_text(alloc, table.name.as_bytes(), &item, count)?;
-    let rows = rows_text(alloc, &rows)?;
-    if text.extend_from_slice(&rows).is_err() {
-        return Err(Memory);
-    }
-    Ok(text)
+    part_and_rows(alloc, table, &item, &rows)
 }
 
-/// The version of a partition of a table. Nothing installs a view's partition yet.
-fn version(desc: &Desc, journal: &Journal, table: &Table, key: Key) -> u64
+/// One partition of a view: its rows are those of its latest version.
+fn view_text(
+    alloc: Global,
+    desc: &Desc,
+    journal: &Journal,
+    table: &Table,
+    key: Key,
+) -> Result<Vec<u8>, Memory>
+    requires kept { IsKept desc.now journal.now }
     requires there { slice_get desc.now.tables key.table ≡ Some table.now }
-    ensures { result ≡ version desc.now journal.now key }
+    requires view { is_raw_kind table.now.kind ≡ false }
+    ensures exact { IfOk result (λ text. text.items
+        ≡ shown_text table.now.name (shown_part desc.now journal.now.entries key)) }
 {
-    let accepted = journal.accepted();
-    if is_raw(&table.kind) {
-        plain_version(desc, accepted, key)
-    } else {
-        0
+    match journal.latest(key) {
+        Some(version) => {
+            let item = PinItem {
+                key,
+                version: version.number,
+                upto: version.at,
+                mark: Mark::Open,
+            };
+            part_and_rows(alloc, table, &item, &version.rows)
+        }
+        None => {
+            let item = PinItem {
+                key,
+                version: 0,
+                upto: 0,
+                mark: Mark::Open,
+            };
+            part_and_rows(alloc, table, &item, &Rows::new(alloc))
+        }
+    }
+}
+
+/// The line of a partition of a table, and its rows.
+fn part_and_rows(
+    alloc: Global,
+    table: &Table,
+    item: &PinItem,
+    rows: &Rows,
+) -> Result<Vec<u8>, Memory>
+    ensures exact { IfOk result (λ text. text.items
+        ≡ shown_text table.now.name (record { item = item.now; rows = rows.now })) }
+{
+    let count = rows.rows().len() as u64;
+    let mut text = part_text(alloc, table.name.as_bytes(), item, count)?;
+    let rows = rows_text(alloc, rows)?;
+    match text.extend_from_slice(&rows) {
+        Ok(()) => Ok(text),
+        Err(_) => Err(Memory),
     }
 }
 

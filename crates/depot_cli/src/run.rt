@@ -4,7 +4,7 @@ ghost use Rattle.std.specs.Prelude.{◌≡◌, ◌↔◌, ◌≤◌, IfSome, IfO
 ghost use Rattle.std.specs.Io.KnownBytes.{Keeps};
 ghost use Rattle.depot_io.specs.Causes.{Rose};
 ghost use Rattle.depot_io.specs.Lines.{LIMIT};
-ghost use Rattle.depot_cli.specs.Description.{IsSmall};
+ghost use Rattle.depot_cli.specs.Description.{IsServed};
 ghost use Rattle.depot_cli.specs.Reading.{Served, opening, reading, session};
 ghost use Rattle.depot_cli.specs.ScriptCalls.{IsOpened, IsScriptCause};
 ghost use Rattle.depot_cli.specs.Runs.{EndsSession, HasRunCauses, IsRun, is_trial};
@@ -110,7 +110,7 @@ fn serve_source<S: Source, O: Sink>(
     source: &mut S,
     sink: &mut O,
 ) -> Status
-    requires small { IsSmall desc.now }
+    requires served { IsServed desc.now }
     requires in_input { base ≤ LIMIT }
     ensures run { IfSome (S.bytes_left source.old) (λ input.
         IsRun (Served desc.now (session desc.now base input)) (O.bytes_got sink.old)

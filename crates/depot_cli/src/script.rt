@@ -3,7 +3,7 @@
 ghost use Rattle.std.specs.Prelude.{◌≡◌, ◌+◌, ◌≤◌, ◌<◌, length, IfSome, IfOk, OnOk, OnSome, Ok, true};
 ghost use Rattle.depot_io.specs.Lines.{LIMIT, line_take};
 ghost use Rattle.depot_cli.specs.Words.{words};
-ghost use Rattle.depot_cli.specs.Description.{IsSmall, is_go};
+ghost use Rattle.depot_cli.specs.Description.{IsServed, is_go};
 ghost use Rattle.depot_cli.specs.Orders.{BODY_LIMIT};
 ghost use Rattle.depot_cli.specs.Reading.{next_line, next_body, body_work as work_of_body, step_of, opening};
 ghost use Rattle.depot_cli.specs.ScriptCalls.{IsAnswerable, IsNextLine, IsNextBody, IsOpening, IsStep, IsScriptCause};
@@ -134,7 +134,7 @@ pub fn next_work<S: Source>(
     reader: &mut LineReader<S>,
     body: &mut Vec<u8>,
 ) -> Result<Option<Work>, ScriptFault>
-    requires small { IsSmall desc.now }
+    requires served { IsServed desc.now }
     requires in_input { base ≤ LIMIT }
     requires not_long { reader.old.taken ≤ LIMIT }
     ensures answer { IfSome (S.bytes_left reader.old.source) (λ bytes.
@@ -152,6 +152,7 @@ pub fn next_work<S: Source>(
     match read_order(alloc, desc, reader.line())? {
         Order::Nothing => Ok(Some(Work::Nothing)),
         Order::Refused => Ok(Some(Work::Refused)),
+        Order::Drain => Ok(Some(Work::Drain)),
         Order::Query(item) => Ok(Some(Work::Query(item))),
         Order::End => Ok(None),
         Order::BigBody => Err(ScriptFault::Input {

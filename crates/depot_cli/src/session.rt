@@ -1,13 +1,14 @@
 //! A session: each item is read, done and replied to before the next one is read.
 
-ghost use Rattle.std.specs.Prelude.{◌≡◌, ◌+◌, ◌≤◌, ◌<◌, ◌^◌, ◌||◌, [], IfSome, OnOk, IfErr, if◌then◌else◌, length};
+ghost use Rattle.std.specs.Prelude.{◌≡◌, ◌≤◌, [], IfSome, OnOk, if◌then◌else◌};
 ghost use Rattle.std.specs.Io.KnownBytes.{Appends};
 ghost use Rattle.depot_io.specs.Causes.{Rose};
 ghost use Rattle.depot_io.specs.Lines.{LIMIT};
-ghost use Rattle.depot_cli.specs.Description.{IsSmall};
+ghost use Rattle.depot_cli.specs.Description.{IsServed};
 ghost use Rattle.depot_cli.specs.Reading.{Served, session};
 ghost use Rattle.depot_cli.specs.ScriptCalls.{IsAnswerable, IsReplyCause, status_of_fault};
 ghost use Rattle.depot_cli.specs.SerialJournal.{journal_after};
+ghost use Rattle.depot_cli.specs.KeptJournals.{IsKept};
 ghost use Rattle.depot_cli.specs.Replies.{is_refused, reply};
 ghost use Rattle.depot_cli.specs.Runs.{EndsSession, HasRunCauses, IsRun};
 
@@ -31,7 +32,7 @@ pub fn serve<S: Source, O: Sink>(
     reader: &mut LineReader<S>,
     sink: &mut O,
 ) -> Status
-    requires small { IsSmall desc.now }
+    requires served { IsServed desc.now }
     requires in_input { base ≤ LIMIT }
     requires start { reader.old.taken ≡ 0 }
     ensures run { IfSome (S.bytes_left reader.old.source) (λ input.
@@ -58,9 +59,10 @@ fn serve_items<S: Source, O: Sink>(
     reader: &mut LineReader<S>,
     sink: &mut O,
 ) -> Status
-    requires small { IsSmall desc.now }
+    requires served { IsServed desc.now }
     requires in_input { base ≤ LIMIT }
-    requires empty { journal.old ≡ [] }
+    requires empty { journal.old.entries ≡ [] }
+    requires kept { IsKept desc.now journal.old }
     requires start { reader.old.taken ≡ 0 }
     ensures run { IfSome (S.bytes_left reader.old.source) (λ input.
         IsRun (Served desc.now (session desc.now base input)) (O.bytes_got sink.old)
@@ -98,11 +100,14 @@ fn serve_item<O: Sink>(
     work: Work,
     sink: &mut O,
 ) -> Result<(), Status>
-    requires few { length journal.old < 2 ^ 63 }
+    requires served { IsServed desc.now }
+    requires kept { IsKept desc.now journal.old }
     requires in_range { IsAnswerable work }
     ensures replied { OnOk result (Appends (O.bytes_got sink.old) (O.bytes_got sink.new)
-        (reply desc.now line journal.old work)) }
-    ensures ok { OnOk result (journal.new ≡ journal_after journal.old work) }
+        (reply desc.now line journal.old.entries work)) }
+    ensures ok { OnOk result
+        (journal.new.entries ≡ journal_after desc.now journal.old.entries work) }
+    ensures kept { OnOk result (IsKept desc.now journal.new) }
     ensures cause { IsReplyCause (O.faults sink.old) (O.faults sink.new) result }
 {
     let text = match answer(alloc, desc, line, journal, work) {
@@ -121,7 +126,7 @@ fn is_refused(work: &Work) -> bool
 {
     match work {
         Work::Refused => true,
-        Work::Nothing | Work::Load(_) | Work::Query(_) => false,
+        Work::Nothing | Work::Load(_) | Work::Drain | Work::Query(_) => false,
     }
 }
 

@@ -9,11 +9,14 @@ use crate::words::{is_go, is_skipped, is_word, words_of};
 use depot_cell::Memory;
 use std::alloc::Global;
 use std::test::Fail;
+use table_desc::Kind;
 use view_meaning::{Item, Mark};
 
 const FEED: &str = "feed f";
 
 const RAW: &str = "raw r feed f width 10 time at cols at:int k:text n:int";
+
+const VIEW: &str = "view v width 20 filter r 0 0 where n >= -5 keep k at";
 
 #[test]
 fn words_stand_between_blanks(rt: HostRuntime) -> Result<(), Fail> {
@@ -75,14 +78,21 @@ fn draft_of(alloc: Global, lines: &[&str]) -> Result<Draft, Memory>
 #[test]
 fn description_is_read(rt: HostRuntime) -> Result<(), Fail> {
     let alloc = rt.alloc();
-    let draft = draft_of(alloc, &["# an example", "", FEED, RAW])?;
+    let draft = draft_of(alloc, &["# an example", "", FEED, RAW, VIEW])?;
     assert_eq!(rt; draft.bad(), None);
     let desc = draft.into_desc();
     assert_eq!(rt; desc.feeds.len(), 1);
     match desc.tables.as_slice() {
-        [table] => {
-            assert_eq!(rt; table.width.ticks(), 10);
-            assert_eq!(rt; table.columns.len(), 3);
+        [raw, view] => {
+            assert_eq!(rt; raw.width.ticks(), 10);
+            assert_eq!(rt; raw.columns.len(), 3);
+            assert_eq!(rt; view.width.ticks(), 20);
+            match &view.kind {
+                Kind::Filter { keep, .. } => {
+                    assert_eq!(rt; keep.as_slice(), [1, 0].as_slice());
+                }
+                _ => assert!(rt; false),
+            }
         }
         _ => assert!(rt; false),
     }
@@ -110,6 +120,46 @@ fn bad_lines_are_named(rt: HostRuntime) -> Result<(), Fail> {
     }
     let twice = draft_of(rt.alloc(), &[FEED, RAW, RAW])?;
     assert_eq!(rt; twice.bad(), Some(3));
+    Ok(())
+}
+
+#[test]
+fn filters_are_read(rt: HostRuntime) -> Result<(), Fail> {
+    for line in [
+        "view w width 10240 filter r 00 -0 where k = x keep n",
+        "view w width 40 filter v 0 0 where at != 7 and k < - keep at k",
+        "view w width 10 filter r 0 0 where n > 1 and n > 2 and n > 3 and n > 4 \
+            and n > 5 and n > 6 and n > 7 and n <= 8 keep n",
+    ] {
+        let draft = draft_of(rt.alloc(), &[FEED, RAW, VIEW, line])?;
+        assert_eq!(rt; draft.bad(), None, "at {line}");
+    }
+    Ok(())
+}
+
+#[test]
+fn bad_filters_are_named(rt: HostRuntime) -> Result<(), Fail> {
+    for line in [
+        "view v width 10 filter r 0 0 where n > 1 and n > 2 and n > 3 and n > 4 \
+            and n > 5 and n > 6 and n > 7 and n > 8 and n > 9 keep n",
+        "view v width 10 filter s 0 0 where n > 1 keep n",
+        "view v width 10 filter r 0 0 where m > 1 keep n",
+        "view v width 10 filter r 0 0 where n > 1 keep m",
+        "view v width 10 filter r 0 0 where n => 1 keep n",
+        "view v width 10 filter r 0 0 where n > x keep n",
+        "view v width 10 filter r 0 0 where n > 1 keep n k n",
+        "view v width 15 filter r 0 0 where n > 1 keep n",
+        "view v width 10250 filter r 0 0 where n > 1 keep n",
+        "view v width 10 filter r -10 0 where n > 1 keep n",
+        "view v width 10 filter r 0 +0 where n > 1 keep n",
+        "view v width 10 filter r 0 0 where n > 1",
+        "view v width 10 filter r 0 0 where n > 1 keep",
+        "view v width 10 filter r 0 0 where n > 1 and keep n",
+        "view r width 10 filter r 0 0 where n > 1 keep n",
+    ] {
+        let draft = draft_of(rt.alloc(), &[FEED, RAW, line])?;
+        assert_eq!(rt; draft.bad(), Some(3), "at {line}");
+    }
     Ok(())
 }
 
@@ -155,7 +205,7 @@ fn session_lines_are_read_or_refused(rt: HostRuntime) -> Result<(), Fail> {
         ("deliver f 7 0 x", Order::Refused),
         ("end", Order::End),
         ("end x", Order::Refused),
-        ("drain", Order::Refused),
+        ("drain", Order::Drain),
         ("", Order::Nothing),
         ("# end", Order::Nothing),
     ] {

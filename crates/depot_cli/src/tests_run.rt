@@ -55,7 +55,7 @@ part r 0 version 1 upto 1 mark open rows 1\n3,\"a,b\",5\n",
 part r 0 version 1 upto 1 mark open rows 1\n3,a,5\n",
         ),
         (
-            b"# a comment\n\ndrain\ndeliver f 0 0 6\nr,3,a\nquery r 20 0\nend\nquery r 0 10\n",
+            b"# a comment\n\nmarks r 0 10\ndeliver f 0 0 6\nr,3,a\nquery r 20 0\nend\nquery r 0 10\n",
             Status::Refused,
             b"refused 3 later\nrefused 4 later\nrefused 5 later\n",
         ),

@@ -3,7 +3,7 @@
 //! Names are bytes. Each text is whole lines, and nothing is answered but for want of memory.
 
 ghost use Rattle.std.specs.Prelude.{List, ℕ, ◌≡◌, ◌++◌, [], IfOk, decimal};
-ghost use Rattle.depot_cli.specs.Texts.{answer_line, line_end, loaded_text, mark_text, part_text, refused_text, repeat_text};
+ghost use Rattle.depot_cli.specs.Texts.{answer_line, drained_text, line_end, loaded_text, mark_text, part_text, refused_text, repeat_text};
 
 use depot_cell::Memory;
 use std::alloc::Global;
@@ -103,6 +103,16 @@ pub fn refused_text(alloc: Global, line: u64) -> Result<Vec<u8>, Memory>
         .word(b"refused ")?
         .number(alloc, line)?
         .word(b" later")?
+        .end()
+}
+
+/// The text that tells that all is computed, up to this place of the journal.
+pub fn drained_text(alloc: Global, place: u64) -> Result<Vec<u8>, Memory>
+    ensures exact { IfOk result (λ text. text.items ≡ drained_text place) }
+{
+    Line::new(alloc)
+        .word(b"drained at ")?
+        .number(alloc, place)?
         .end()
 }
 

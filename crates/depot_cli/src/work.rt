@@ -12,6 +12,8 @@ pub enum Work {
     Refused,
     /// To load a delivery.
     Load(Delivery),
+    /// To compute all that is not settled.
+    Drain,
     /// To answer a query.
     Query(Item),
 }

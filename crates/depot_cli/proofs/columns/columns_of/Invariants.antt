@@ -2,7 +2,7 @@
 -- words
 use Rattle.std.proofs.Common.{◌≡◌, drop, map}
 use Rattle.depot_cli.specs.Description.{columns_of}
-use Rattle.depot_cli.proofs.ColumnLemmas.{with_front}
+use Rattle.depot_cli.proofs.FrontLemmas.{with_front}
 use Rattle.depot_cli.proofs.columns.columns_of.Given as goal
 
 abbrev pub invariant-loop-word : goal.invariant-loop-word

@@ -1,30 +1,34 @@
-use Rattle.std.proofs.Common.{◌≡◌, ℕ, ◌<◌, ◌≢◌, List, None, map, length, Bor, arith}
-use Rattle.std.proofs.lemmas.List.{length-map}
-use Rattle.table_desc.specs.Descriptions.{DescOf}
-use Rattle.depot_cli.specs.Description.{declared_by}
-use Rattle.depot_cli.proofs.DescriptionLemmas.{declared_by-none}
+use Rattle.std.proofs.Common.{ℕ, ◌≤◌, Bor, List, [], length, arith}
+use Rattle.std.proofs.lemmas.List.{take_rest}
+use Rattle.depot_cli.proofs.DescriptionLemmas.{declared_by-few, declared_by-more}
 use Rattle.depot_cli.proofs.description.declare.Goals as goal
 
--- the same of words that are references
-none : (desc : DescOf) (words : List (Bor (List ℕ))) → length words ≢ 2 → length words < 9
-    → declared_by desc (map (λ (word : Bor (List ℕ)). word.now) words) ≡ None
-none desc words odd few =
-    let plain : List (List ℕ) = map (λ (word : Bor (List ℕ)). word.now) words in
-    let same : length plain ≡ length words = length-map words _ in
-    declared_by-none desc plain (omega arith) (omega arith)
+-- what a goal has as the word at a place where there is none
+abbrev no_word : Bor (List ℕ)
+no_word = record { ref_ptr = (0, 0); now = [] }
 
 pub returns-in_default-clause-told : goal.returns-in_default-clause-told
 returns-in_default-clause-told c =
-    rw (none c.args.desc.now c.args.words.now (omega arith) (omega arith))
+    rw (declared_by-few c.args.desc.now c.args.words.now c.in_default.len_below)
 
 pub returns-in_default-clause-ok : goal.returns-in_default-clause-ok
 returns-in_default-clause-ok c =
-    rw (none c.args.desc.now c.args.words.now (omega arith) (omega arith))
+    rw (declared_by-few c.args.desc.now c.args.words.now c.in_default.len_below)
 
-pub returns-in_default-2-clause-told : goal.returns-in_default-2-clause-told
-returns-in_default-2-clause-told c =
-    rw (none c.args.desc.now c.args.words.now (omega arith) (omega arith))
+pub returns-in-len2-up-clause-told : goal.returns-in-len2-up-clause-told
+returns-in-len2-up-clause-told c =
+    let more : 3 ≤ length c.args.words.now = omega arith in
+    rw (
+      declared_by-more c.args.desc.now c.args.words.now no_word more,
+      ← take_rest c.args.words.now 2,
+    )
+    c.declare_table.ensures.told
 
-pub returns-in_default-2-clause-ok : goal.returns-in_default-2-clause-ok
-returns-in_default-2-clause-ok c =
-    rw (none c.args.desc.now c.args.words.now (omega arith) (omega arith))
+pub returns-in-len2-up-clause-ok : goal.returns-in-len2-up-clause-ok
+returns-in-len2-up-clause-ok c =
+    let more : 3 ≤ length c.args.words.now = omega arith in
+    rw (
+      declared_by-more c.args.desc.now c.args.words.now no_word more,
+      ← take_rest c.args.words.now 2,
+    )
+    c.declare_table.ensures.ok

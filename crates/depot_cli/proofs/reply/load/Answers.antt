@@ -2,6 +2,7 @@
 use Rattle.std.proofs.Common.{◌+◌, ℕ, List, length, sym, ◌∙◌, ap}
 use Rattle.table_desc.specs.Deliveries.{DeliveryOf}
 use Rattle.depot_cli.specs.Texts.{feed_name, loaded_text}
+use Rattle.depot_cli.proofs.KeptLemmas.{IsKept-load}
 use Rattle.depot_cli.proofs.ReplyLemmas.{load_reply-new}
 use Rattle.depot_cli.proofs.reply.load.Goals as goal
 
@@ -13,16 +14,25 @@ returns-clause-exact c =
     (record { entry = c.len.result + 1; kept = c.len-2.result; aside = 0 }))
     c.feed_name-feed.ensures
     ∙ ap (λ (place : ℕ). loaded_text (feed_name c.args.desc.now inside.feed) inside.number
-    (record { entry = place + 1; kept = c.len-2.result; aside = 0 })) c.len.ensures
-    ∙ ap (λ (rows : ℕ). loaded_text (feed_name c.args.desc.now inside.feed) inside.number
-    (record { entry = length c.args.journal.now + 1; kept = rows; aside = 0 }))
+    (record { entry = place + 1; kept = c.len-2.result; aside = 0 })) c.len.ensures.exact
+    ∙ ap (λ (rows : ℕ). loaded_text (feed_name c.args.desc.now inside.feed) inside.number (record {
+      entry = length c.args.journal.now.entries + 1;
+      kept = rows;
+      aside = 0;
+    }))
     (c.len-2.ensures ∙ inside.rows.ok.0)
     ∙ ap (λ (delivery : DeliveryOf).
     loaded_text (feed_name c.args.desc.now delivery.feed) delivery.number (record {
-      entry = length c.args.journal.now + 1;
+      entry = length c.args.journal.now.entries + 1;
       kept = length delivery.rows;
       aside = 0;
     }))
     c.delivery.view_is
-    ∙ sym (load_reply-new c.args.desc.now c.args.journal.now c.args.delivery
+    ∙ sym (load_reply-new c.args.desc.now c.args.journal.now.entries c.args.delivery
     (sym c.has.ensures ∙ c.if-has.false))
+
+pub returns-clause-kept : goal.returns-clause-kept
+returns-clause-kept c =
+    IsKept-load c.args.desc.now c.args.journal.now c.load.new.self c.args.delivery c.requires.kept
+    (sym c.has.ensures ∙ c.if-has.false) c.in_ok-load.ensures.entries c.in_ok-load.ensures.fresh
+    c.in_ok-load.ensures.versions

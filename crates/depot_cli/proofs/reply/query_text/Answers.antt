@@ -12,9 +12,9 @@ use Rattle.depot_cli.proofs.reply.query_text.Goals as goal
 pub returns-in-None : goal.returns-in-None
 returns-in-None c = record {
   exact = rw (
-    answer_text-none c.args.desc.now c.args.journal.now c.args.item _ _
+    answer_text-none c.args.desc.now c.args.journal.now.entries c.args.item _ _
         (sym c.in-None.ensures),
-    ← c.len.ensures,
+    ← c.len.ensures.exact,
   )
       c.answer_line.ensures.exact;
 }
@@ -27,7 +27,7 @@ returns c =
     ap (λ (table : TableOf). parts_met table.width c.args.item.from c.args.item.to)
     (sym c.table.view_is)
     ∙ c.plain_parts-parts.ensures.exact in
-    let part_of : ℕ → ShownPart = λ part. shown_part c.args.desc.now c.args.journal.now
+    let part_of : ℕ → ShownPart = λ part. shown_part c.args.desc.now c.args.journal.now.entries
     (record { table = c.args.item.table; part = part }) in
     let parts : List ℕ = range_with_len c.plain_parts-parts.result.first
     c.plain_parts-parts.result.count in
@@ -37,7 +37,7 @@ returns c =
           (map part_of parts))
           (c.in_ok-text.ensures.exact
           ∙ ap (λ (place : ℕ). answer_line place c.plain_parts-parts.result.count)
-          c.len-2.ensures)
-          ∙ sym (answer_text-run c.args.desc.now c.args.journal.now c.args.item
-          c.in-Some.table.now (length c.args.journal.now) _ _ there run);
+          c.len-2.ensures.exact)
+          ∙ sym (answer_text-run c.args.desc.now c.args.journal.now.entries c.args.item
+          c.in-Some.table.now (length c.args.journal.now.entries) _ _ there run);
     }

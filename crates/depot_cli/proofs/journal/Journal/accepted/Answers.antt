@@ -1,6 +1,6 @@
--- The deliveries of loads alone are those that were loaded.
-use Rattle.view_meaning.proofs.JournalLemmas.{accepted-map-Load}
+-- The deliveries are those of the loads.
+use Rattle.depot_cli.proofs.JournalViewLemmas.{accepted-entries_of}
 use Rattle.depot_cli.proofs.journal.Journal.accepted.Goals as goal
 
-pub returns-clause-deliveries : goal.returns-clause-deliveries
-returns-clause-deliveries c = rw (← c.self.view_is, accepted-map-Load) (c.as_slice.ensures.value)
+pub returns : goal.returns
+returns c = rw (← c.self.view_is, accepted-entries_of _ _ c.self.invariant.loads) (c.as_slice.ensures.value)

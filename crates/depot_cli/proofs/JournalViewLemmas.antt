@@ -1,0 +1,92 @@
+-- The entries of a journal whose steps and deliveries are kept apart.
+use Rattle.std.proofs.Common.{◌≡◌, ℕ, suc, ◌+◌, List, [], ◌∷◌, ◌++◌, length, length-append, refl, ap, arith}
+use Rattle.table_desc.specs.Deliveries.{DeliveryOf}
+use Rattle.table_desc.specs.declared.table.Key.{Key}
+use Rattle.view_meaning.specs.declared.journal.Entry.TheVariants as entry
+use Rattle.view_meaning.specs.Journal.{accepted}
+use Rattle.depot_cli.specs.declared.step.Step.{Step}
+use Rattle.depot_cli.specs.declared.step.Step.TheVariants.{Load, Install}
+use Rattle.depot_cli.specs.JournalView.{AreSteps, entries_of, loads_in}
+
+-- the accepted deliveries are those of the loads
+pub accepted-entries_of : (steps : List Step) (deliveries : List DeliveryOf)
+    → loads_in steps ≡ length deliveries
+    → accepted (entries_of steps deliveries) ≡ deliveries
+accepted-entries_of [] [] loads = refl
+accepted-entries_of [] (delivery ∷ later) loads = absurd (omega (arith, loads))
+accepted-entries_of (Load ∷ steps) [] loads = absurd (omega (arith, loads))
+accepted-entries_of (Load ∷ steps) (delivery ∷ later) loads =
+    ap (λ rest. delivery ∷ rest) (accepted-entries_of steps later (omega (arith, loads)))
+accepted-entries_of (Install key at ∷ steps) deliveries loads =
+    accepted-entries_of steps deliveries loads
+
+-- there is an entry for each step
+pub length-entries_of : (steps : List Step) (deliveries : List DeliveryOf)
+    → loads_in steps ≡ length deliveries
+    → length (entries_of steps deliveries) ≡ length steps
+length-entries_of [] deliveries loads = refl
+length-entries_of (Load ∷ steps) [] loads = absurd (omega (arith, loads))
+length-entries_of (Load ∷ steps) (delivery ∷ later) loads =
+    ap suc (length-entries_of steps later (omega (arith, loads)))
+length-entries_of (Install key at ∷ steps) deliveries loads =
+    ap suc (length-entries_of steps deliveries loads)
+
+-- the loads of steps and more are those of both
+pub loads_in-append : (steps more : List Step)
+    → loads_in (steps ++ more) ≡ loads_in steps + loads_in more
+loads_in-append [] more = omega arith
+loads_in-append (Load ∷ steps) more = omega (arith, loads_in-append steps more)
+loads_in-append (Install key at ∷ steps) more = loads_in-append steps more
+
+-- a load at the end is an entry at the end
+pub entries_of-load : (steps : List Step) (deliveries : List DeliveryOf) (delivery : DeliveryOf)
+    → loads_in steps ≡ length deliveries
+    → entries_of (steps ++ Load ∷ []) (deliveries ++ delivery ∷ [])
+    ≡ entries_of steps deliveries ++ entry.Load delivery ∷ []
+entries_of-load [] [] delivery loads = refl
+entries_of-load [] (first ∷ later) delivery loads = absurd (omega (arith, loads))
+entries_of-load (Load ∷ steps) [] delivery loads = absurd (omega (arith, loads))
+entries_of-load (Load ∷ steps) (first ∷ later) delivery loads =
+    ap (λ rest. entry.Load first ∷ rest)
+    (entries_of-load steps later delivery (omega (arith, loads)))
+entries_of-load (Install key at ∷ steps) deliveries delivery loads =
+    ap (λ rest. entry.Install key at ∷ rest) (entries_of-load steps deliveries delivery loads)
+
+-- so is an install
+pub entries_of-install : (steps : List Step) (deliveries : List DeliveryOf) (key : Key) (at : ℕ)
+    → loads_in steps ≡ length deliveries
+    → entries_of (steps ++ Install key at ∷ []) deliveries
+    ≡ entries_of steps deliveries ++ entry.Install key at ∷ []
+entries_of-install [] deliveries key at loads = refl
+entries_of-install (Load ∷ steps) [] key at loads = absurd (omega (arith, loads))
+entries_of-install (Load ∷ steps) (first ∷ later) key at loads =
+    ap (λ rest. entry.Load first ∷ rest)
+    (entries_of-install steps later key at (omega (arith, loads)))
+entries_of-install (Install other place ∷ steps) deliveries key at loads =
+    ap (λ rest. entry.Install other place ∷ rest)
+    (entries_of-install steps deliveries key at loads)
+
+-- a load adds a step and a delivery
+pub AreSteps-load : (steps : List Step) (deliveries : List DeliveryOf) (seen : ℕ)
+    (delivery : DeliveryOf)
+    → AreSteps steps deliveries seen
+    → AreSteps (steps ++ Load ∷ []) (deliveries ++ delivery ∷ []) seen
+AreSteps-load steps deliveries seen delivery before = record {
+  loads = omega (
+    arith,
+    loads_in-append steps (Load ∷ []),
+    before.loads,
+    length-append deliveries (delivery ∷ []),
+  );
+  past = omega (arith, before.past, length-append deliveries (delivery ∷ []));
+}
+
+-- an install adds a step alone
+pub AreSteps-install : (steps : List Step) (deliveries : List DeliveryOf) (seen : ℕ) (key : Key)
+    (at : ℕ)
+    → AreSteps steps deliveries seen
+    → AreSteps (steps ++ Install key at ∷ []) deliveries seen
+AreSteps-install steps deliveries seen key at before = record {
+  loads = omega (arith, loads_in-append steps (Install key at ∷ []), before.loads);
+  past = before.past;
+}

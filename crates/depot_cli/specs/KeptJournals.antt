@@ -1,0 +1,64 @@
+-- What a run keeps of its journal beside the entries: of each partition of a view that was installed
+-- its latest version with its rows, and which deliveries came since all was settled.
+use Rattle.std.specs.Prelude.{ℕ, zero, suc, ◌≡◌, List, ◌++◌, Option, Some, None, true, length, map, take}
+use Rattle.std.specs.Map.{lookup}
+use Rattle.std.specs.BTreeMap.{is_at}
+use Rattle.std.specs.Ordering.{nat_cmp, ordering_then}
+use Rattle.std.specs.declared.cmp.Ordering.{Ordering}
+use Rattle.table_desc.specs.declared.table.Key.{Key}
+use Rattle.table_desc.specs.Deliveries.{DeliveryOf}
+use Rattle.table_desc.specs.Descriptions.{DescOf}
+use Rattle.view_meaning.specs.declared.journal.Entry.{Entry}
+use Rattle.view_meaning.specs.declared.journal.Entry.TheVariants as entry
+use Rattle.view_meaning.specs.Partitions.{is_part}
+use Rattle.view_meaning.specs.Journal.{accepted}
+use Rattle.view_meaning.specs.Values.{value}
+use Rattle.view_meaning.specs.Versions.{install_places, last_place}
+use Rattle.view_meaning.specs.Staleness.{is_settled}
+use Rattle.view_meaning.specs.LegalJournals.{IsLegal}
+use Rattle.depot_cli.specs.declared.version.Version.{Version}
+
+-- keys go by their tables, then by their numbers
+abbrev pub key_cmp : Key → Key → Ordering
+key_cmp key other = ordering_then (nat_cmp key.table other.table) (nat_cmp key.part other.part)
+
+-- the latest version that is kept of a partition
+abbrev pub latest_in : List (Key × Version) → Key → Option Version
+latest_in versions key = lookup (is_at (key_cmp key)) versions
+
+-- the number of a latest version, and 0 where there is none
+abbrev pub number_in : Option Version → ℕ
+number_in None = 0
+number_in (Some version) = version.number
+
+-- a journal with what is kept beside its entries
+pub record JournalOf : Type 0 where
+  pub entries : List Entry
+  pub fresh : List DeliveryOf
+  pub versions : List (Key × Version)
+
+-- the version of a partition that was installed so often, the last time with this place, where
+-- these entries stand before the place; version 0 is none
+abbrev pub version_made : DescOf → Key → (number at : ℕ) → (before : List Entry) → Option Version
+version_made desc key zero at before = None
+version_made desc key (suc number) at before =
+    Some (record { number = suc number; at = at; rows = value desc (accepted before) key })
+
+-- the latest version of a partition: its rows are its value over what was accepted up to the place
+-- of its last install
+abbrev pub latest : DescOf → List Entry → Key → Option Version
+latest desc journal key = version_made desc key (length (install_places journal key))
+    (last_place journal key) (take (last_place journal key) journal)
+
+-- the fresh deliveries are those behind entries after which each partition was settled
+pub record AreFresh (desc : DescOf) (journal : JournalOf) : Type 0 where
+  pub before : List Entry
+  pub loads : journal.entries ≡ before ++ map entry.Load journal.fresh
+  pub legal : IsLegal desc before
+  pub settled : (key : Key) → is_part desc key ≡ true → is_settled desc before key ≡ true
+
+-- what is kept is true of the entries
+pub record IsKept (desc : DescOf) (journal : JournalOf) : Type 0 where
+  pub legal : IsLegal desc journal.entries
+  pub fresh : AreFresh desc journal
+  pub latest : (key : Key) → latest_in journal.versions key ≡ latest desc journal.entries key
