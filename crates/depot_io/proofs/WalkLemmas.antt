@@ -44,12 +44,12 @@ walk-count (Some bytes) (Some rest) before after most line Full walk within room
     let m = measured bytes line [] rest walk.unbroken walk.took in
     omega (arith, length-append line [], walk.counted, walk.stop, m.spans, m.counts)
 
--- a walk that fails is inside the line
+-- a walk that fails took no LF, and no more than a line may have
 pub walk-fault : (old new : Option (List ℕ)) (before after most : ℕ) (line : List ℕ)
     (fault : Failed)
     → WalksLine old new before after most line (Err fault)
     → before ≤ LIMIT → most ≡ min (LIMIT - before) 4097
-    → IfSome old (λ bytes. after ≤ before + line_take bytes)
+    → IfSome old (λ bytes. after ≤ before + min 4096 (span bytes))
 walk-fault None new before after most line fault walk within room = tt
 walk-fault (Some bytes) None before after most line fault walk within room = absurd walk.took
 walk-fault (Some bytes) (Some rest) before after most line fault walk within room =

@@ -44,9 +44,10 @@ IsLineAnswer bytes before line (Err Long) = LIMIT ≤ before + line_take bytes
 IsLineAnswer bytes before line (Err Cut) = ⊥
 IsLineAnswer bytes before line (Err Memory) = ⊥
 
--- how many bytes were taken in all after a next line; a fault comes inside the line
+-- how many bytes were taken in all after a next line; a fault comes before its LF is taken, and
+-- before it is too long
 abbrev pub TakesLine : List ℕ → ℕ → ℕ → Result Line LineFault → Type 0
-TakesLine bytes before after (Err ReadFault) = after ≤ before + line_take bytes
+TakesLine bytes before after (Err ReadFault) = after ≤ before + min 4096 (span bytes)
 TakesLine bytes before after _ = after ≡ min LIMIT (before + line_take bytes)
 
 -- a line takes something, and the end nothing
@@ -81,6 +82,12 @@ TakesBody bytes taken into _ = into ≡ take taken bytes
 abbrev pub HoldsCount : {T : Type 0} → ℕ → List ℕ → Result T LineFault → Type 0
 HoldsCount taken into (Err Memory) = ⊤
 HoldsCount taken into _ = length into ≡ taken
+
+-- a body that a fault or the end breaks off lacks one byte at least
+abbrev pub IsShort : {T : Type 0} → ℕ → ℕ → ℕ → Result T LineFault → Type 0
+IsShort before after count (Err ReadFault) = after < before + count
+IsShort before after count (Err Cut) = after < before + count
+IsShort before after count _ = ⊤
 
 -- a body is refused for one of these
 abbrev pub IsBodyFault : LineFault → Type 0

@@ -7,7 +7,7 @@ ghost use Rattle.std.specs.Prelude.{◌≡◌, ◌+◌, ◌-◌, ◌^◌, ◌≤
 ghost use Rattle.std.specs.Io.BufRead.{strip_last};
 ghost use Rattle.std.specs.Io.KnownBytes.{Consumes, Keeps, IsAtEnd};
 ghost use Rattle.depot_io.specs.Causes.{HasCause};
-ghost use Rattle.depot_io.specs.Lines.{LIMIT, line_len, IsLineAnswer, TakesLine, TakesSome, IsLineFault, IsBodyAnswer, TakesBody, HoldsCount, IsBodyFault, Takes, HasReadCause, WalksLine};
+ghost use Rattle.depot_io.specs.Lines.{LIMIT, line_len, IsLineAnswer, TakesLine, TakesSome, IsLineFault, IsBodyAnswer, TakesBody, HoldsCount, IsShort, IsBodyFault, Takes, HasReadCause, WalksLine};
 
 use crate::{Failed, Memory, Source};
 use std::alloc::Global;
@@ -229,6 +229,7 @@ impl<S: Source> LineReader<S> {
         ensures takes { Takes (S.bytes_left self.old.source) (S.bytes_left self.new.source)
             (self.new.taken - self.old.taken) }
         ensures count { OnOk result (self.new.taken ≡ self.old.taken + n) }
+        ensures short { IsShort self.old.taken self.new.taken n result }
         ensures held { HoldsCount (self.new.taken - self.old.taken) into.new.items result }
         ensures memory { result ≡ Err LineFault.Memory →
             (self.new ≡ self.old) × (into.new.items ≡ into.old.items) }
