@@ -1,5 +1,5 @@
--- What is kept beside the entries of a journal, as the journal grows: at the start, by a load, by an
--- install, and after a drain.
+-- What is kept beside the entries of a journal, as the journal grows: at the start, by a load, by
+-- an install, and after a drain.
 use Rattle.std.proofs.Common.{◌≡◌, ◌∙◌, ℕ, zero, suc, ◌+◌, ◌≤◌, List, [], ◌∷◌, ◌++◌, length, take, refl, sym, ap, map, subst, arith, inl, inr, get_or, ◌<◌, append-nil, append_assoc, length-append}
 use Rattle.std.specs.Prelude.{Bool, true, false, ◌==◌, ◌&&◌, Some, ◌⊎◌, if◌then◌else◌, filter, fold}
 use Rattle.std.specs.List.{list_all}

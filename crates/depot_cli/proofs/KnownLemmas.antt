@@ -1,6 +1,6 @@
--- What follows of a value that may be there.
+-- What follows of a value that may be there, and of an error that is passed up.
 use Rattle.std.proofs.Common.{◌≡◌, subst, IfSome}
-use Rattle.std.specs.Prelude.{Option, Some, None}
+use Rattle.std.specs.Prelude.{Option, Some, None, Result, Ok, Err, IsErrAnd}
 
 -- what is known of the value that may be there is known of the one that is
 pub IfSome-known : {X : Type 0} (value : Option X) (known : X) (P : X → Type 0)
@@ -8,8 +8,14 @@ pub IfSome-known : {X : Type 0} (value : Option X) (known : X) (P : X → Type 0
 IfSome-known {X} value known P is_known holds =
     let Q : Option X → Type 0 = λ value. IfSome value P in subst Q is_known holds
 
--- what follows of each of them follows of a value that may be there
-pub IfSome-map : {X : Type 0} (value : Option X) (P Q : X → Type 0) → ((x : X) → P x → Q x)
-    → IfSome value P → IfSome value Q
-IfSome-map None P Q follows holds = tt
-IfSome-map (Some x) P Q follows holds = follows x holds
+-- what holds of each value holds of the one that may be there
+pub IfSome-each : {X : Type 0} (value : Option X) (P : X → Type 0) → ((x : X) → P x)
+    → IfSome value P
+IfSome-each None P holds = tt
+IfSome-each (Some x) P holds = holds x
+
+-- `?` passes an error up as it is
+pub Err-passed : {T E : Type 0} (result : Result T E) (fault : E)
+    → IsErrAnd result (λ passed. passed ≡ fault) → result ≡ Err fault
+Err-passed (Ok value) fault is_passed = absurd is_passed
+Err-passed (Err passed) fault is_passed = cc

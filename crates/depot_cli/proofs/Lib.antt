@@ -4,6 +4,8 @@ pub mod CsvRecords
 pub mod DescriptionLemmas
 pub mod FlexibleRows
 pub mod FrontLemmas
+pub mod DueLemmas
+pub mod EndLemmas
 pub mod KnownLemmas
 pub mod JournalViewLemmas
 pub mod KeptLemmas
@@ -16,3 +18,4 @@ pub mod ServedLemmas
 pub mod SessionLemmas
 pub mod SerialLemmas
 pub mod SieveLemmas
+pub mod StepLemmas

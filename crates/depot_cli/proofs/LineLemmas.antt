@@ -1,8 +1,9 @@
--- What the next line, body and step of an input leave.
-use Rattle.std.proofs.Common.{◌≡◌, ℕ, ◌+◌, ◌<◌, ◌≤◌, List, [], ◌∷◌, length, Bool, true, false, refl, arith, nat_lt, nat_le, if◌then◌else◌, length-drop, min, subst}
-use Rattle.std.specs.Prelude.{Option, drop, take}
+-- What the next line, body and step of an input leave, and what is due of them.
+use Rattle.std.proofs.Common.{◌≡◌, ℕ, suc, zero, ◌+◌, ◌-◌, ◌<◌, ◌≤◌, List, [], ◌∷◌, length, Bool, true, false, refl, sym, ap, ◌∙◌, arith, nat_lt, nat_le, if◌then◌else◌, length-drop, min, subst}
+use Rattle.std.specs.Prelude.{IfSome, Option, Some, None, Ok, drop, take}
 use Rattle.std.specs.Io.BufRead.{first_line}
-use Rattle.depot_io.specs.Lines.{LIMIT, line_take, span}
+use Rattle.std.proofs.lemmas.Bool.{ltb-false}
+use Rattle.depot_io.specs.Lines.{LIMIT, Takes, line_take, span}
 use Rattle.depot_cli.specs.declared.status.InputEnd.TheVariants as why
 use Rattle.depot_cli.specs.Words.{is_empty}
 use Rattle.table_desc.specs.Descriptions.{DescOf}
@@ -11,40 +12,38 @@ use Rattle.depot_cli.specs.declared.order.Order.{Order}
 use Rattle.depot_cli.specs.declared.order.Order.TheVariants as order
 use Rattle.depot_cli.specs.declared.work.Work.{Work}
 use Rattle.depot_cli.specs.Orders.{order_of}
-use Rattle.depot_cli.specs.Reading.{NextLine, NoLine, Unreadable, Line, next_line, NextBody, Unfinished, Body, next_body, Does, body_step, order_step, line_step, step_of}
+use Rattle.depot_cli.specs.Reading.{NextLine, NoLine, Unreadable, Line, next_line, NextBody, Unfinished, Body, next_body, Does, body_due, body_step, line_due, order_step, line_step, step_of}
+use Rattle.depot_cli.specs.ScriptCalls.{IsBodyUndone, IsLeftOf, IsNextLine}
+use Rattle.depot_cli.proofs.KnownLemmas.{IfSome-known}
 
 -- what there is to be read has a length
 is_empty-false : (bytes : List ℕ) → is_empty bytes ≡ false → 0 < length bytes
 is_empty-false [] none = cc
 is_empty-false (byte ∷ bytes) some = omega arith
 
--- a line that is there was not the end, and leaves what it did not take
+-- a line that is there was not the end, is not too wide, and leaves what it did not take
 line_there : (long empty wide : Bool) (line rest its_line its_rest : List ℕ)
     → (if long then Unreadable why.Long else if empty then NoLine
     else if wide then Unreadable why.LongLine else Line line rest) ≡ Line its_line its_rest
-    → (empty ≡ false) × (rest ≡ its_rest)
+    → (empty ≡ false) × (wide ≡ false) × (rest ≡ its_rest)
 line_there true empty wide line rest its_line its_rest there = cc
 line_there false true wide line rest its_line its_rest there = cc
 line_there false false true line rest its_line its_rest there = cc
-line_there false false false line rest its_line its_rest there = (refl, cc)
+line_there false false false line rest its_line its_rest there = (refl, refl, cc)
 
--- a line leaves less than there was
+-- a line leaves less than there was, and no more than is due of it
 pub next_line-shorter : (taken : ℕ) (bytes line rest : List ℕ)
     → next_line taken bytes ≡ Line line rest
-    → length rest < length bytes
+    → (length rest < length bytes) × (length rest ≤ line_due bytes)
 next_line-shorter taken bytes line rest there =
     let parts = line_there (nat_le LIMIT (taken + line_take bytes)) (is_empty bytes)
     (nat_lt 4096 (span bytes)) (first_line bytes) (drop (line_take bytes) bytes)
     line rest there in
     let some = is_empty-false bytes parts.0 in
-    let fewer : length (drop (line_take bytes) bytes) < length bytes =
-    omega (arith, length-drop (line_take bytes) bytes) in
-    subst (λ (left : List ℕ). length left < length bytes) parts.1 fewer
-
--- the same bytes are no more
-same_fewer : (bytes rest : List ℕ) → bytes ≡ rest → length rest ≤ length bytes
-same_fewer bytes rest same =
-    subst (λ (left : List ℕ). length left ≤ length bytes) same (omega arith)
+    let narrow = ltb-false 4096 (span bytes) parts.1 in
+    let left : length bytes - line_take bytes ≡ length rest =
+    sym (length-drop (line_take bytes) bytes) ∙ ap length parts.2 in
+    (omega arith, omega arith)
 
 -- a body that is there leaves what it did not take
 body_there : (long cut : Bool) (body rest its_body its_rest : List ℕ)
@@ -55,69 +54,158 @@ body_there true cut body rest its_body its_rest there = cc
 body_there false true body rest its_body its_rest there = cc
 body_there false false body rest its_body its_rest there = cc
 
--- a body leaves no more than there was
-next_body-fewer : (taken size : ℕ) (bytes body rest : List ℕ)
+-- a body leaves what stands behind it
+next_body-left : (taken size : ℕ) (bytes body rest : List ℕ)
     → next_body taken size bytes ≡ Body body rest
-    → length rest ≤ length bytes
-next_body-fewer taken size bytes body rest there =
+    → length rest ≡ length bytes - size
+next_body-left taken size bytes body rest there =
     let is_rest = body_there (nat_le LIMIT (taken + min size (length bytes)))
     (nat_lt (length bytes) size) (take size bytes) (drop size bytes) body rest there in
-    let fewer : length (drop size bytes) ≤ length bytes = omega (arith, length-drop size bytes) in
-    subst (λ (left : List ℕ). length left ≤ length bytes) is_rest fewer
+    ap length (sym is_rest) ∙ length-drop size bytes
 
--- what is done at a body leaves no more than stood behind its line
-body_step-fewer : (desc : DescOf) (base taken size : ℕ) (head : Option Head)
-    (bytes rest : List ℕ) (next : NextBody) (work : Work) (taken_now : ℕ)
+-- a body is due no later than its line, and not before what stands behind it
+body_due-within : (due size : ℕ) (bytes : List ℕ) → length bytes ≤ due
+    → (length bytes - size ≤ body_due due size bytes) × (body_due due size bytes ≤ due)
+body_due-within due zero bytes within = (omega arith, omega arith)
+body_due-within due (suc size) bytes within = (omega arith, omega arith)
+
+-- what a step leaves: fewer bytes than so many, and no more than are due of it; it is due no later
+-- than this
+pub record StepLeaves (many due its_due : ℕ) (rest : List ℕ) : Type 0 where
+  pub fewer : length rest < many
+  pub behind : length rest ≤ its_due
+  pub within : its_due ≤ due
+
+-- of two steps that are one the same is left and due
+Does-same : (work its_work : Work) (due its_due taken its_taken : ℕ) (rest its_rest : List ℕ)
+    → Does work due taken rest ≡ Does its_work its_due its_taken its_rest
+    → (length its_rest ≡ length rest) × (its_due ≡ due)
+Does-same work its_work due its_due taken its_taken rest its_rest same =
+    let is_rest : its_rest ≡ rest = cc in
+    (ap length is_rest, cc)
+
+-- what is done at a body leaves what stands behind it
+body_step-left : (desc : DescOf) (base due taken size : ℕ) (head : Option Head)
+    (bytes rest : List ℕ) (next : NextBody) (work : Work) (its_due taken_now : ℕ)
     → next_body taken size bytes ≡ next
-    → body_step desc base taken head size next ≡ Does work taken_now rest
-    → length rest ≤ length bytes
-body_step-fewer desc base taken size head bytes rest (Unfinished cause) work taken_now is_next
-    does = cc
-body_step-fewer desc base taken size head bytes rest (Body body its_rest) work taken_now is_next
-    does =
-    let same : its_rest ≡ rest = cc in
-    subst (λ (left : List ℕ). length left ≤ length bytes) same
-    (next_body-fewer taken size bytes body its_rest is_next)
+    → body_step desc base due taken head size next ≡ Does work its_due taken_now rest
+    → (length rest ≡ length bytes - size) × (its_due ≡ due)
+body_step-left desc base due taken size head bytes rest (Unfinished cause) work its_due taken_now
+    is_next does = cc
+body_step-left desc base due taken size head bytes rest (Body body behind) work its_due taken_now
+    is_next does =
+    let same = Does-same _ work due its_due _ taken_now behind rest does in
+    (same.0 ∙ next_body-left taken size bytes body behind is_next, same.1)
 
--- what is done for an order leaves no more than stood behind its line
-order_step-fewer : (desc : DescOf) (base taken : ℕ) (asked : Order) (bytes rest : List ℕ)
-    (work : Work) (taken_now : ℕ)
-    → order_step desc base taken asked bytes ≡ Does work taken_now rest
-    → length rest ≤ length bytes
-order_step-fewer desc base taken order.Nothing bytes rest work taken_now does =
-    same_fewer bytes rest cc
-order_step-fewer desc base taken (order.Query item) bytes rest work taken_now does =
-    same_fewer bytes rest cc
-order_step-fewer desc base taken order.Drain bytes rest work taken_now does =
-    same_fewer bytes rest cc
-order_step-fewer desc base taken order.End bytes rest work taken_now does = cc
-order_step-fewer desc base taken order.Refused bytes rest work taken_now does =
-    same_fewer bytes rest cc
-order_step-fewer desc base taken (order.Body head size) bytes rest work taken_now does =
-    body_step-fewer desc base taken size head bytes rest (next_body taken size bytes)
-    work taken_now refl does
-order_step-fewer desc base taken order.BigBody bytes rest work taken_now does = cc
+-- what is done at a line alone leaves what stands behind it
+Does-leaves : (asked work : Work) (due its_due taken taken_now : ℕ) (bytes rest : List ℕ)
+    → length bytes ≤ due
+    → Does asked due taken bytes ≡ Does work its_due taken_now rest
+    → StepLeaves (length bytes + 1) due its_due rest
+Does-leaves asked work due its_due taken taken_now bytes rest within does =
+    let same = Does-same asked work due its_due taken taken_now bytes rest does in
+    record {
+      fewer = omega arith;
+      behind = omega arith;
+      within = omega arith;
+    }
 
--- what is done at a line leaves less than there was
-line_step-shorter : (desc : DescOf) (base taken : ℕ) (bytes rest : List ℕ) (next : NextLine)
-    (work : Work) (taken_now : ℕ)
+-- what is done for an order leaves no more than stood behind its line, and is due no later
+order_step-leaves : (desc : DescOf) (base due taken : ℕ) (asked : Order) (bytes rest : List ℕ)
+    (work : Work) (its_due taken_now : ℕ)
+    → length bytes ≤ due
+    → order_step desc base due taken asked bytes ≡ Does work its_due taken_now rest
+    → StepLeaves (length bytes + 1) due its_due rest
+order_step-leaves desc base due taken order.Nothing bytes rest work its_due taken_now within does =
+    Does-leaves _ work due its_due taken taken_now bytes rest within does
+order_step-leaves desc base due taken (order.Query item) bytes rest work its_due taken_now within
+    does = Does-leaves _ work due its_due taken taken_now bytes rest within does
+order_step-leaves desc base due taken order.Drain bytes rest work its_due taken_now within does =
+    Does-leaves _ work due its_due taken taken_now bytes rest within does
+order_step-leaves desc base due taken order.End bytes rest work its_due taken_now within does = cc
+order_step-leaves desc base due taken order.Refused bytes rest work its_due taken_now within does =
+    Does-leaves _ work due its_due taken taken_now bytes rest within does
+order_step-leaves desc base due taken (order.Body head size) bytes rest work its_due taken_now
+    within does =
+    let left = body_step-left desc base (body_due due size bytes) taken size head bytes rest
+    (next_body taken size bytes) work its_due taken_now refl does in
+    let dues = body_due-within due size bytes within in
+    record {
+      fewer = omega arith;
+      behind = omega arith;
+      within = omega arith;
+    }
+order_step-leaves desc base due taken order.BigBody bytes rest work its_due taken_now within does =
+    cc
+
+-- what is done at a line leaves less than there was, and is due no later than the line
+line_step-leaves : (desc : DescOf) (base taken : ℕ) (bytes rest : List ℕ) (next : NextLine)
+    (work : Work) (due taken_now : ℕ)
     → next_line taken bytes ≡ next
-    → line_step desc base taken bytes next ≡ Does work taken_now rest
-    → length rest < length bytes
-line_step-shorter desc base taken bytes rest NoLine work taken_now is_next does = cc
-line_step-shorter desc base taken bytes rest (Unreadable cause) work taken_now is_next does = cc
-line_step-shorter desc base taken bytes rest (Line line behind) work taken_now is_next does =
-    omega (
-      arith,
-      next_line-shorter taken bytes line behind is_next,
-      order_step-fewer desc base (taken + line_take bytes) (order_of desc line) behind rest
-          work taken_now does,
-    )
+    → line_step desc base taken bytes next ≡ Does work due taken_now rest
+    → StepLeaves (length bytes) (line_due bytes) due rest
+line_step-leaves desc base taken bytes rest NoLine work due taken_now is_next does = cc
+line_step-leaves desc base taken bytes rest (Unreadable cause) work due taken_now is_next does = cc
+line_step-leaves desc base taken bytes rest (Line line behind) work due taken_now is_next does =
+    let shorter = next_line-shorter taken bytes line behind is_next in
+    let leaves = order_step-leaves desc base (line_due bytes) (taken + line_take bytes)
+    (order_of desc line) behind rest work due taken_now shorter.1 does in
+    record {
+      fewer = omega (arith, leaves.fewer);
+      behind = leaves.behind;
+      within = leaves.within;
+    }
 
--- what is done leaves less than there was
-pub step_of-shorter : (desc : DescOf) (base taken : ℕ) (bytes rest : List ℕ) (work : Work)
-    (taken_now : ℕ)
-    → step_of desc base taken bytes ≡ Does work taken_now rest
-    → length rest < length bytes
-step_of-shorter desc base taken bytes rest work taken_now does =
-    line_step-shorter desc base taken bytes rest (next_line taken bytes) work taken_now refl does
+-- what is done leaves less than there was, and is due no later than its line
+pub step_of-leaves : (desc : DescOf) (base taken : ℕ) (bytes rest : List ℕ) (work : Work)
+    (due taken_now : ℕ)
+    → step_of desc base taken bytes ≡ Does work due taken_now rest
+    → StepLeaves (length bytes) (line_due bytes) due rest
+step_of-leaves desc base taken bytes rest work due taken_now does =
+    line_step-leaves desc base taken bytes rest (next_line taken bytes) work due taken_now refl
+    does
+
+-- fewer bytes are left too
+pub IsLeftOf-le : (left : Option (List ℕ)) (count fewer : ℕ)
+    → fewer ≤ count → IsLeftOf left count → IsLeftOf left fewer
+IsLeftOf-le None count fewer at_most is_left = absurd is_left
+IsLeftOf-le (Some bytes) count fewer at_most is_left = omega arith
+
+-- where a reader took no more than stands before the LF of a line, the LF is left
+pub line-untaken : (old new : Option (List ℕ)) (before after : ℕ)
+    → before ≤ after
+    → IfSome old (λ bytes. after ≤ before + min 4096 (span bytes))
+    → Takes old new (after - before)
+    → IfSome old (λ bytes. IsLeftOf new (line_due bytes))
+line-untaken None new before after later within takes = tt
+line-untaken (Some bytes) None before after later within takes = absurd takes
+line-untaken (Some bytes) (Some rest) before after later within takes =
+    let left : length rest ≡ length bytes - (after - before) =
+    ap length takes.1 ∙ length-drop (after - before) bytes in
+    omega arith
+
+-- where a reader took less than a body, the last byte of the body is left
+pub body-untaken : (old new : Option (List ℕ)) (before after size : ℕ)
+    → before ≤ after → after < before + size
+    → Takes old new (after - before)
+    → IfSome old (λ bytes. IsBodyUndone size bytes new)
+body-untaken None new before after size later within takes = tt
+body-untaken (Some bytes) None before after size later within takes = absurd takes
+body-untaken (Some bytes) (Some rest) before after size later within takes =
+    let left : length rest ≡ length bytes - (after - before) =
+    ap length takes.1 ∙ length-drop (after - before) bytes in
+    (omega arith, omega arith)
+
+-- the line that is known to be there
+pub known_line : (taken place : ℕ) (line : List ℕ) (left_now left : Option (List ℕ)) (rest : List ℕ)
+    (there : Bool)
+    → left ≡ Some rest → there ≡ true
+    → IfSome left (λ bytes.
+    IsNextLine (next_line taken bytes) (line_due bytes) place line left_now (Ok there))
+    → IsNextLine (next_line taken rest) (line_due rest) place line left_now (Ok true)
+known_line taken place line left_now left rest there is_left is_there answer =
+    let P : Bool → Type 0 = λ there.
+    IsNextLine (next_line taken rest) (line_due rest) place line left_now (Ok there) in
+    subst P is_there (IfSome-known left rest
+    (λ bytes. IsNextLine (next_line taken bytes) (line_due bytes) place line left_now (Ok there))
+    is_left answer)

@@ -1,17 +1,19 @@
 -- How far a description was read: what its lines so far describe, and that what is left goes on
 -- to the opening of the whole input.
 use Rattle.std.proofs.Common.{◌≡◌, ℕ, suc, zero, ◌+◌, ◌≤◌, List, [], ◌∷◌, ◌++◌, length, Bool, true, false, refl, sym, ap, ◌∙◌, arith, append_assoc, subst}
-use Rattle.std.specs.Prelude.{IfSome, Option, Some, None, Ok}
+use Rattle.std.specs.Prelude.{IfSome, Option, Some, None, Ok, Err}
 use Rattle.std.proofs.lemmas.List.Sums.{fold-append}
 use Rattle.depot_io.specs.Lines.{line_take}
 use Rattle.std.specs.Prelude.{is_some, if◌then◌else◌, ◌||◌}
 use Rattle.table_desc.specs.Descriptions.{DescOf}
 use Rattle.depot_cli.specs.Words.{words, is_skipped}
 use Rattle.depot_cli.specs.Description.{Described, described, with_line, with_declared, declared_by, nothing_described, is_go}
-use Rattle.depot_cli.specs.Reading.{NextLine, Line, next_line, Opening, opening, opening_at, opening_from, after_line}
-use Rattle.depot_cli.specs.ScriptCalls.{IsNextLine}
+use Rattle.depot_cli.specs.declared.script.ScriptFault.{ScriptFault}
+use Rattle.depot_cli.specs.declared.script.ScriptFault.TheVariants.{Input, ReadFault, Memory}
+use Rattle.depot_cli.specs.Reading.{NextLine, NoLine, Unreadable, Line, line_due, next_line, Opening, OpeningEnd, Go, Broken, opening, opening_at, opening_from, after_line}
+use Rattle.depot_cli.specs.ScriptCalls.{IsBeforeGo, IsLeftOf, IsNextLine, IsOpening}
 use Rattle.depot_cli.proofs.KnownLemmas.{IfSome-known}
-use Rattle.depot_cli.proofs.LineLemmas.{next_line-shorter}
+use Rattle.depot_cli.proofs.LineLemmas.{IsLeftOf-le, known_line, next_line-shorter}
 
 -- an opening with these lines in front
 abbrev pub after_lines : List (List ℕ) → Opening → Opening
@@ -65,24 +67,13 @@ opening_at-line : (more : List ℕ → Opening) (taken : ℕ) (bytes line rest :
     → opening_at more taken bytes (Line line rest) ≡ after_line line (more rest)
 opening_at-line more taken bytes line rest goes = rw goes refl
 
--- the line that is known to be there
-known_line : (taken place : ℕ) (line : List ℕ) (left_now left : Option (List ℕ)) (rest : List ℕ)
-    (there : Bool)
-    → left ≡ Some rest → there ≡ true
-    → IfSome left (λ bytes. IsNextLine (next_line taken bytes) place line left_now (Ok there))
-    → IsNextLine (next_line taken rest) place line left_now (Ok true)
-known_line taken place line left_now left rest there is_left is_there answer =
-    let P : Bool → Type 0 = λ there.
-    IsNextLine (next_line taken rest) place line left_now (Ok there) in
-    subst P is_there (IfSome-known left rest
-    (λ bytes. IsNextLine (next_line taken bytes) place line left_now (Ok there)) is_left answer)
-
 -- a line that does not end the description is added to it
 pub HasOpened-line : (whole : Opening) (before : Described) (taken taken_now place : ℕ)
     (line : List ℕ) (there : Bool) (left left_now : Option (List ℕ))
     → HasOpened whole before taken left
     → there ≡ true
-    → IfSome left (λ bytes. IsNextLine (next_line taken bytes) place line left_now (Ok there))
+    → IfSome left (λ bytes.
+    IsNextLine (next_line taken bytes) (line_due bytes) place line left_now (Ok there))
     → IfSome left (λ bytes. taken_now ≡ taken + line_take bytes)
     → is_go (words line) ≡ false
     → HasOpened whole (with_line before line) taken_now left_now
@@ -102,13 +93,13 @@ HasOpened-line whole before taken taken_now place line there left left_now opene
         → after_lines opened.lines (opening_from (suc turns) taken opened.rest) ≡ whole
         → HasOpened whole (with_line before line) taken_now left_now
     behind zero rest count enough next is_left describes goes_on =
-        absurd (omega (arith, next_line-shorter taken opened.rest line rest next))
+        absurd (omega (arith, (next_line-shorter taken opened.rest line rest next).0))
     behind (suc turns) rest count enough next is_left describes goes_on = record {
       rest = rest;
       lines = opened.lines ++ line ∷ [];
       turns = turns;
       is_left = is_left;
-      enough = omega (arith, next_line-shorter taken opened.rest line rest next);
+      enough = omega (arith, (next_line-shorter taken opened.rest line rest next).0);
       describes = ap (λ (before : Described). with_line before line) describes
           ∙ sym (fold-append with_line nothing_described opened.lines (line ∷ []));
       goes_on = ap (λ (taken : ℕ).
@@ -122,6 +113,83 @@ HasOpened-line whole before taken taken_now place line there left left_now opene
       where
         more : List ℕ → Opening
         more = opening_from (suc turns) (taken + line_take opened.rest)
+
+-- what stands behind the `go` line is no more than is due of the first line
+opening_at-left : (more : List ℕ → Opening) (taken taken_now : ℕ) (bytes rest : List ℕ)
+    (next : NextLine)
+    → ((behind : List ℕ) → (more behind).end ≡ Go taken_now rest → length rest ≤ line_due behind)
+    → next_line taken bytes ≡ next
+    → (opening_at more taken bytes next).end ≡ Go taken_now rest
+    → length rest ≤ line_due bytes
+opening_at-left more taken taken_now bytes rest NoLine later is_next goes = cc
+opening_at-left more taken taken_now bytes rest (Unreadable cause) later is_next goes = cc
+opening_at-left more taken taken_now bytes rest (Line line behind) later is_next goes =
+    by_line (is_go (words line)) goes
+  where
+    by_line : (is_last : Bool)
+        → (if is_last then record { lines = []; end = Go (taken + line_take bytes) behind }
+        else after_line line (more behind)).end
+        ≡ Go taken_now rest
+        → length rest ≤ line_due bytes
+    by_line true goes =
+        let same : behind ≡ rest = cc in
+        omega (arith, (next_line-shorter taken bytes line behind is_next).1, ap length same)
+    by_line false goes =
+        omega (arith, (next_line-shorter taken bytes line behind is_next).1, later behind goes)
+
+-- what stands behind the `go` line is no more than is due of the first line, in so many turns
+opening_from-left : (turns taken taken_now : ℕ) (bytes rest : List ℕ)
+    → (opening_from turns taken bytes).end ≡ Go taken_now rest
+    → length rest ≤ line_due bytes
+opening_from-left zero taken taken_now bytes rest goes = cc
+opening_from-left (suc turns) taken taken_now bytes rest goes =
+    opening_at-left (opening_from turns (taken + line_take bytes)) taken taken_now bytes rest
+    (next_line taken bytes)
+    (λ behind goes. opening_from-left turns (taken + line_take bytes) taken_now behind rest goes)
+    refl goes
+
+-- no byte behind a `go` line was taken where so much is left at least as stands there
+IsBeforeGo-le : (end : OpeningEnd) (left : Option (List ℕ)) (count : ℕ)
+    → ((taken : ℕ) (rest : List ℕ) → end ≡ Go taken rest → length rest ≤ count)
+    → IsLeftOf left count → IsBeforeGo end left
+IsBeforeGo-le (Go taken rest) left count least is_left =
+    IsLeftOf-le left count (length rest) (least taken rest refl) is_left
+IsBeforeGo-le (Broken why place) left count least is_left = tt
+
+-- a fault at a line is one of the opening
+opening_fault : (whole : Opening) (turns taken taken_now place : ℕ) (rest line : List ℕ)
+    (lines : List (List ℕ)) (left_now : Option (List ℕ)) (fault : ScriptFault)
+    → after_lines lines (opening_from (suc turns) taken rest) ≡ whole
+    → place ≡ taken
+    → IsNextLine (next_line taken rest) (line_due rest) place line left_now (Err fault)
+    → IsOpening whole taken_now left_now (Err fault)
+opening_fault whole turns taken taken_now place rest line lines left_now (Input why at) goes_on
+    is_place answer =
+    ap (λ (opening : Opening). opening.end)
+    (sym (opening_next whole lines turns taken rest (Unreadable why) answer.0 goes_on))
+    ∙ ap (λ (place : ℕ). Broken why place) (sym (answer.1 ∙ is_place))
+opening_fault whole turns taken taken_now place rest line lines left_now ReadFault goes_on is_place
+    answer =
+    subst (λ (opening : Opening). IsBeforeGo opening.end left_now) goes_on
+    (IsBeforeGo-le (opening_from (suc turns) taken rest).end left_now (line_due rest)
+    (λ taken_behind behind goes. opening_from-left (suc turns) taken taken_behind rest behind goes)
+    answer)
+opening_fault whole turns taken taken_now place rest line lines left_now Memory goes_on is_place
+    answer = absurd answer
+
+-- a fault at the next line
+pub HasOpened-fault : (whole : Opening) (before : Described) (taken taken_now place : ℕ)
+    (line : List ℕ) (left left_now : Option (List ℕ)) (fault : ScriptFault)
+    → HasOpened whole before taken left
+    → place ≡ taken
+    → IfSome left (λ bytes.
+    IsNextLine (next_line taken bytes) (line_due bytes) place line left_now (Err fault))
+    → IsOpening whole taken_now left_now (Err fault)
+HasOpened-fault whole before taken taken_now place line left left_now fault opened is_place answer =
+    opening_fault whole opened.turns taken taken_now place opened.rest line opened.lines left_now
+    fault opened.goes_on is_place (IfSome-known left opened.rest
+    (λ bytes. IsNextLine (next_line taken bytes) (line_due bytes) place line left_now (Err fault))
+    opened.is_left answer)
 
 -- nothing was read of what a source has left
 pub HasOpened-init : (left : Option (List ℕ)) (before : Described) → before ≡ nothing_described

@@ -1,12 +1,18 @@
--- The reading of an input, by its description and the session behind it.
-use Rattle.std.proofs.Common.{◌≡◌, ℕ, List, sym, ap, ◌∙◌, subst, IfSome}
-use Rattle.std.specs.Prelude.{Option, None, Ok}
+-- The run of an input, by its description and the session behind it.
+use Rattle.std.proofs.Common.{◌≡◌, ℕ, List, length, refl, sym, ap, inl, inr, ◌∙◌, subst, IfSome}
+use Rattle.std.specs.Prelude.{Option, Some, None, Ok, Err}
+use Rattle.std.proofs.KnownBytes.{Appends-nil}
+use Rattle.depot_cli.specs.declared.script.ScriptFault.{ScriptFault}
+use Rattle.depot_cli.specs.declared.script.ScriptFault.TheVariants.{Input, ReadFault, Memory}
 use Rattle.depot_cli.specs.declared.status.Status.{Status}
+use Rattle.depot_cli.specs.declared.status.Status.TheVariants as status
 use Rattle.table_desc.specs.Descriptions.{DescOf}
 use Rattle.depot_cli.specs.Description.{Described, described}
-use Rattle.depot_cli.specs.Reading.{OpeningEnd, Go, Script, Served, opening, reading, script_at, script_behind, session}
-use Rattle.depot_cli.specs.ScriptCalls.{IsOpening}
-use Rattle.depot_cli.specs.Runs.{IsRun}
+use Rattle.depot_cli.specs.Reading.{OpeningEnd, Go, Broken, Script, Unopened, Misdescribed, Served, opening, reading, script_at, script_behind, session}
+use Rattle.depot_cli.specs.ScriptCalls.{IsBeforeGo, IsLeftOf, IsOpening, status_of_fault}
+use Rattle.depot_cli.specs.Runs.{GainsFrontOf, GainsTakenOf, HasCompleteRuns, IsRun}
+use Rattle.depot_cli.proofs.KnownLemmas.{IfSome-each}
+use Rattle.depot_cli.proofs.EndLemmas.{GainsFront-start, GainsTaken-start}
 
 -- an accepted description is followed by its session
 reading-opened : (input : List ℕ) (before : Described) (taken : ℕ) (rest : List ℕ)
@@ -33,3 +39,93 @@ IsRun-opened input before desc taken left got_before got_now left_now ended open
     (ap (λ (desc : DescOf). Served desc (session desc taken opened.0)) same
     ∙ sym (reading-opened input before taken opened.0 opened.1 opened.2 accepted))
     (subst P opened.3 served)
+
+-- nothing was put, whatever the reading is
+GainsFrontOf-start : (script : Script) (got : Option (List ℕ)) → GainsFrontOf script got got
+GainsFrontOf-start (Unopened why place) got = Appends-nil got
+GainsFrontOf-start (Misdescribed line) got = Appends-nil got
+GainsFrontOf-start (Served desc session) got = GainsFront-start desc session got
+
+-- nothing was put, and nothing behind the description was taken
+GainsTakenOf-behind : (before : Described) (base : ℕ) (rest : List ℕ) (bad : Option ℕ)
+    (got left : Option (List ℕ))
+    → IsLeftOf left (length rest)
+    → GainsTakenOf (script_behind before base rest bad) got got left
+GainsTakenOf-behind before base rest None got left is_left =
+    GainsTaken-start before.desc base rest got left is_left
+GainsTakenOf-behind before base rest (Some line) got left is_left = Appends-nil got
+
+-- nothing was put, and nothing behind the `go` line was taken
+GainsTakenOf-start : (before : Described) (end : OpeningEnd) (got left : Option (List ℕ))
+    → IsBeforeGo end left
+    → GainsTakenOf (script_at before end) got got left
+GainsTakenOf-start before (Go taken rest) got left is_left =
+    GainsTakenOf-behind before taken rest before.bad got left is_left
+GainsTakenOf-start before (Broken why place) got left is_left = Appends-nil got
+
+-- the run of an input whose description was not read
+pub IsRun-unopened : (input : List ℕ) (got left : Option (List ℕ)) (fault : ScriptFault)
+    → IsOpening (opening input) 0 left (Err fault)
+    → IsRun (reading input) got got left (status_of_fault fault)
+IsRun-unopened input got left (Input why place) breaks =
+    subst (λ (end : OpeningEnd).
+    IsRun (script_at (described (opening input).lines) end) got got left (status.Input why place))
+    (sym breaks)
+    (record {
+      told = refl;
+      gains = Appends-nil got;
+      left = λ whole. cc;
+    })
+IsRun-unopened input got left ReadFault is_before = record {
+  told = tt;
+  gains = GainsTakenOf-start (described (opening input).lines) (opening input).end got left
+      is_before;
+  left = λ whole. cc;
+}
+IsRun-unopened input got left Memory breaks = record {
+  told = tt;
+  gains = GainsFrontOf-start (reading input) got;
+  left = λ whole. cc;
+}
+
+-- a run of which nothing was asked
+pub IsRun-usage : (got left left_now : Option (List ℕ))
+    → IfSome left (λ input. IsRun (reading input) got got left_now status.Usage)
+IsRun-usage got left left_now =
+    IfSome-each left (λ input. IsRun (reading input) got got left_now status.Usage)
+    (λ input. record {
+      told = tt;
+      gains = Appends-nil got;
+      left = λ whole. cc;
+    })
+
+-- a session for which there was no memory at its start
+pub IsRun-unserved : (desc : DescOf) (base : ℕ) (got left left_now : Option (List ℕ))
+    → IfSome left (λ input.
+    IsRun (Served desc (session desc base input)) got got left_now status.Memory)
+IsRun-unserved desc base got left left_now =
+    IfSome-each left
+    (λ input. IsRun (Served desc (session desc base input)) got got left_now status.Memory)
+    (λ input. record {
+      told = tt;
+      gains = GainsFront-start desc (session desc base input) got;
+      left = λ whole. cc;
+    })
+
+-- a run that no device ended has the status of its reading, or had no memory
+pub status_of-complete : HasCompleteRuns
+status_of-complete script status.Done rb rn wb wn told causes no_read no_write command =
+    inl (sym told)
+status_of-complete script status.Refused rb rn wb wn told causes no_read no_write command =
+    inl (sym told)
+status_of-complete script status.Usage rb rn wb wn told causes no_read no_write command =
+    absurd (command refl)
+status_of-complete script (status.BadDescription line cause) rb rn wb wn told causes no_read
+    no_write command = inl (sym told)
+status_of-complete script (status.Input why place) rb rn wb wn told causes no_read no_write
+    command = inl (sym told)
+status_of-complete script status.ReadFault rb rn wb wn told causes no_read no_write command =
+    absurd (no_read (causes.read refl))
+status_of-complete script status.WriteFault rb rn wb wn told causes no_read no_write command =
+    absurd (no_write (causes.write refl))
+status_of-complete script status.Memory rb rn wb wn told causes no_read no_write command = inr refl

@@ -1,9 +1,9 @@
 -- How far a session was served: what was replied, what the journal has, and that what is left
 -- goes on to the session of the whole input.
-use Rattle.std.proofs.Common.{◌≡◌, ℕ, suc, zero, ◌+◌, ◌≤◌, List, [], ◌∷◌, ◌++◌, length, Bool, true, false, refl, sym, ap, ◌∙◌, arith, append_assoc, append-nil, length-append, subst}
-use Rattle.std.specs.Prelude.{IfSome, Option, Some, None, Ok, if◌then◌else◌, ◌||◌}
+use Rattle.std.proofs.Common.{◌≡◌, ℕ, suc, zero, ◌+◌, ◌≤◌, List, [], ◌∷◌, ◌++◌, length, Bool, false, refl, sym, ap, ◌∙◌, arith, append_assoc, append-nil, length-append, subst}
+use Rattle.std.specs.Prelude.{IfSome, Option, Some, None, Ok, ◌||◌}
 use Rattle.std.specs.Io.KnownBytes.{Appends}
-use Rattle.std.proofs.KnownBytes.{Appends-trans}
+use Rattle.std.proofs.KnownBytes.{Appends-nil, Appends-trans}
 use Rattle.std.proofs.Math.Bool.{or-false}
 use Rattle.std.proofs.lemmas.List.Folds.{list_any-append}
 use Rattle.std.proofs.lemmas.List.Sums.{fold-append}
@@ -15,7 +15,7 @@ use Rattle.depot_cli.specs.ScriptCalls.{IsStep}
 use Rattle.depot_cli.specs.SerialJournal.{journal_after, serial}
 use Rattle.depot_cli.specs.Replies.{has_refused, is_refused, replies, reply}
 use Rattle.depot_cli.proofs.KnownLemmas.{IfSome-known}
-use Rattle.depot_cli.proofs.LineLemmas.{step_of-shorter}
+use Rattle.depot_cli.proofs.LineLemmas.{step_of-leaves}
 
 -- the replies to items are those to the first of them and then those to the others, after the
 -- journal that the first made
@@ -29,7 +29,8 @@ replies-append desc line journal (item ∷ items) others =
     ap (λ (more : List ℕ). reply desc line journal item ++ more)
     (replies-append desc (line + 1) (journal_after desc journal item) items others)
     ∙ sym (append_assoc (reply desc line journal item) between
-    (replies desc (line + 1 + length items) (serial desc (journal_after desc journal item) items) others))
+    (replies desc (line + 1 + length items)
+    (serial desc (journal_after desc journal item) items) others))
     ∙ ap (λ (line : ℕ). (first ++ between)
     ++ replies desc line (serial desc (journal_after desc journal item) items) others) (omega arith)
   where
@@ -48,9 +49,10 @@ replies-push desc items work =
     ∙ ap (λ (last : List ℕ). replies desc 1 [] items ++ last)
     (append-nil (reply desc (1 + length items) (serial desc [] items) work))
 
--- a session with these items in front
-abbrev pub after_items : List Work → Session → Session
-after_items items session = record session { items = items ++ session.items }
+-- a session with these items in front, and what is due of each
+abbrev pub after_items : List Work → (dues : List ℕ) → Session → Session
+after_items items dues session =
+    record session { items = items ++ session.items; dues = dues ++ session.dues }
 
 -- items were served: what they were replied, what the journal has of them, and whether one was
 -- refused; what is left goes on to the whole session
@@ -59,19 +61,16 @@ pub record HasServed (desc : DescOf) (base : ℕ) (whole : Session)
     (taken : ℕ) (left : Option (List ℕ)) : Type 0 where
   pub rest : List ℕ
   pub items : List Work
+  pub dues : List ℕ
   pub turns : ℕ
   pub is_left : left ≡ Some rest
   pub enough : length rest ≤ turns
-  pub goes_on : after_items items (session_from desc base (suc turns) taken rest) ≡ whole
+  pub paired : length dues ≡ length items
+  pub goes_on : after_items items dues (session_from desc base (suc turns) taken rest) ≡ whole
   pub replied : Appends got_before got_now (replies desc 1 [] items)
   pub journaled : journal ≡ serial desc [] items
   pub counted : line ≡ 1 + length items
   pub told : refused ≡ has_refused items
-
--- nothing was put
-Appends-none : (got : Option (List ℕ)) → Appends got got []
-Appends-none None = tt
-Appends-none (Some bytes) = sym (append-nil bytes)
 
 -- nothing was served
 pub HasServed-start : (desc : DescOf) (base : ℕ) (bytes : List ℕ) (got : Option (List ℕ))
@@ -79,11 +78,13 @@ pub HasServed-start : (desc : DescOf) (base : ℕ) (bytes : List ℕ) (got : Opt
 HasServed-start desc base bytes got = record {
   rest = bytes;
   items = [];
+  dues = [];
   turns = length bytes;
   is_left = refl;
   enough = omega arith;
+  paired = refl;
   goes_on = refl;
-  replied = Appends-none got;
+  replied = Appends-nil got;
   journaled = refl;
   counted = refl;
   told = refl;
@@ -104,25 +105,31 @@ HasServed-init desc base (Some input) got journal taken is_new is_start =
     (HasServed-start desc base input got))
 
 -- what the session is from here on, at its next step
-session_next : (desc : DescOf) (base turns taken : ℕ) (rest : List ℕ) (items : List Work)
-    (whole : Session) (step : Step)
+pub session_next : (desc : DescOf) (base turns taken : ℕ) (rest : List ℕ) (items : List Work)
+    (dues : List ℕ) (whole : Session) (step : Step)
     → step_of desc base taken rest ≡ step
-    → after_items items (session_from desc base (suc turns) taken rest) ≡ whole
-    → after_items items (session_at (session_from desc base turns) step) ≡ whole
-session_next desc base turns taken rest items whole step is_step goes_on =
-    ap (λ (step : Step). after_items items (session_at (session_from desc base turns) step))
+    → after_items items dues (session_from desc base (suc turns) taken rest) ≡ whole
+    → after_items items dues (session_at (session_from desc base turns) step) ≡ whole
+session_next desc base turns taken rest items dues whole step is_step goes_on =
+    ap (λ (step : Step). after_items items dues (session_at (session_from desc base turns) step))
     (sym is_step)
     ∙ goes_on
 
 -- one item more at the end of those served
-after_items-push : (items : List Work) (work : Work) (session : Session)
-    → after_items items (after_item work session) ≡ after_items (items ++ work ∷ []) session
-after_items-push items work session =
-    ap (λ (all : List Work). record session { items = all })
+after_items-push : (items : List Work) (dues : List ℕ) (work : Work) (due : ℕ) (session : Session)
+    → after_items items dues (after_item work due session)
+    ≡ after_items (items ++ work ∷ []) (dues ++ due ∷ []) session
+after_items-push items dues work due session =
+    ap (λ (all : List Work). record session { items = all; dues = dues ++ due ∷ session.dues })
     (sym (append_assoc items (work ∷ []) session.items))
+    ∙ ap (λ (all : List ℕ). record session {
+      items = (items ++ work ∷ []) ++ session.items;
+      dues = all;
+    })
+    (sym (append_assoc dues (due ∷ []) session.dues))
 
 -- what was put and then what was put behind it
-Appends-reply : (before now next : Option (List ℕ)) (text more all : List ℕ)
+pub Appends-reply : (before now next : Option (List ℕ)) (text more all : List ℕ)
     → Appends before now text → Appends now next more → text ++ more ≡ all → Appends before next all
 Appends-reply before now next text more all first second is_all =
     subst (λ (all : List ℕ). Appends before next all) is_all
@@ -144,31 +151,41 @@ HasServed-item desc base whole got_before got_now got_next journal journal_next 
     let step = IfSome-known left served.rest
     (λ bytes. IsStep (step_of desc base taken bytes) taken_next left_next (Ok (Some work)))
     served.is_left stepped in
-    behind served.turns step.0 served.enough step.1 step.2 served.goes_on
+    behind served.turns step.due step.rest served.enough step.does step.is_left served.goes_on
   where
-    behind : (turns : ℕ) (rest : List ℕ) → length served.rest ≤ turns
-        → step_of desc base taken served.rest ≡ Does work taken_next rest → left_next ≡ Some rest
-        → after_items served.items (session_from desc base (suc turns) taken served.rest) ≡ whole
+    behind : (turns due : ℕ) (rest : List ℕ) → length served.rest ≤ turns
+        → step_of desc base taken served.rest ≡ Does work due taken_next rest
+        → left_next ≡ Some rest
+        → after_items served.items served.dues
+        (session_from desc base (suc turns) taken served.rest)
+        ≡ whole
         → HasServed desc base whole got_before got_next journal_next (line + 1)
         (refused || is_refused work) taken_next left_next
-    behind zero rest enough step is_left goes_on =
+    behind zero due rest enough step is_left goes_on =
         absurd (omega (
           arith,
-          step_of-shorter desc base taken served.rest rest work taken_next step,
+          (step_of-leaves desc base taken served.rest rest work due taken_next step).fewer,
         ))
-    behind (suc turns) rest enough step is_left goes_on = record {
+    behind (suc turns) due rest enough step is_left goes_on = record {
       rest = rest;
       items = served.items ++ work ∷ [];
+      dues = served.dues ++ due ∷ [];
       turns = turns;
       is_left = is_left;
       enough = omega (
         arith,
-        step_of-shorter desc base taken served.rest rest work taken_next step,
+        (step_of-leaves desc base taken served.rest rest work due taken_next step).fewer,
       );
-      goes_on = sym (after_items-push served.items work
+      paired = omega (
+        arith,
+        served.paired,
+        length-append served.items (work ∷ []),
+        length-append served.dues (due ∷ []),
+      );
+      goes_on = sym (after_items-push served.items served.dues work due
           (session_from desc base (suc turns) taken_next rest))
-          ∙ session_next desc base (suc turns) taken served.rest served.items whole
-          (Does work taken_next rest) step goes_on;
+          ∙ session_next desc base (suc turns) taken served.rest served.items served.dues whole
+          (Does work due taken_next rest) step goes_on;
       replied = Appends-reply got_before got_now got_next _ _ _ served.replied put
           (ap (λ (line : ℕ). replies desc 1 [] served.items ++ reply desc line journal work)
           served.counted

@@ -1,5 +1,5 @@
--- What a run keeps of its journal beside the entries: of each partition of a view that was installed
--- its latest version with its rows, and which deliveries came since all was settled.
+-- What a run keeps of its journal beside the entries: of each partition of a view that was
+-- installed its latest version with its rows, and which deliveries came since all was settled.
 use Rattle.std.specs.Prelude.{ℕ, zero, suc, ◌≡◌, List, ◌++◌, Option, Some, None, true, length, map, take}
 use Rattle.std.specs.Map.{lookup}
 use Rattle.std.specs.BTreeMap.{is_at}

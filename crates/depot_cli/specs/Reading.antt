@@ -1,5 +1,5 @@
 -- The reading of a script: what its bytes say, item by item, and how it ends.
-use Rattle.std.specs.Prelude.{ℕ, zero, suc, ◌+◌, List, [], ◌∷◌, Option, Some, None, nat_lt, nat_le, if◌then◌else◌, length, take, drop, min}
+use Rattle.std.specs.Prelude.{ℕ, zero, suc, ◌+◌, ◌-◌, List, [], ◌∷◌, Option, Some, None, nat_lt, nat_le, if◌then◌else◌, length, take, drop, min}
 use Rattle.std.specs.Io.BufRead.{first_line}
 use Rattle.depot_io.specs.Lines.{LIMIT, line_take, span}
 use Rattle.table_desc.specs.declared.delivery.DRow.{DRow}
@@ -85,10 +85,22 @@ pub data SessionEnd : Type 0 where
   Ended : (rest : List ℕ) → SessionEnd
   Stopped : InputEnd → (place : ℕ) → SessionEnd
 
--- the next step of a session: it ends, or there is something to do, with what was taken and is left
+-- the next step of a session: it ends, or there is something to do. Then `due` tells how many bytes
+-- are left at least as long as its last byte, the LF of its line or the last one of its body, was
+-- not taken; and behind it stands what was taken in all, and what is left.
 pub data Step : Type 0 where
   Ends : SessionEnd → Step
-  Does : Work → (taken : ℕ) → (rest : List ℕ) → Step
+  Does : Work → (due taken : ℕ) → (rest : List ℕ) → Step
+
+-- how many bytes are left at least as long as the LF of the line in front was not taken: none where
+-- no LF follows
+abbrev pub line_due : List ℕ → ℕ
+line_due bytes = length bytes - span bytes
+
+-- the same of a body of this size, in front of these bytes; where it is empty, of its line
+abbrev pub body_due : (due size : ℕ) → List ℕ → ℕ
+body_due due zero bytes = due
+body_due due (suc size) bytes = length bytes - size
 
 -- what a body asks for by its rows
 abbrev pub load_of : Head → Option (List DRow) → Work
@@ -102,51 +114,54 @@ body_work desc None body = work.Refused
 body_work desc (Some head) body = load_of head (rows_of desc head.feed body)
 
 -- the step at a body of this size, behind its line
-abbrev pub body_step : DescOf → (base taken : ℕ) → Option Head → (size : ℕ) → NextBody → Step
-body_step desc base taken head size (Unfinished cause) = Ends (Stopped cause (base + taken))
-body_step desc base taken head size (Body body rest) =
-    Does (body_work desc head body) (taken + size) rest
+abbrev pub body_step : DescOf → (base due taken : ℕ) → Option Head → (size : ℕ) → NextBody → Step
+body_step desc base due taken head size (Unfinished cause) = Ends (Stopped cause (base + taken))
+body_step desc base due taken head size (Body body rest) =
+    Does (body_work desc head body) due (taken + size) rest
 
 -- the step that an order asks for, behind its line
-abbrev pub order_step : DescOf → (base taken : ℕ) → Order → List ℕ → Step
-order_step desc base taken order.Nothing rest = Does work.Nothing taken rest
-order_step desc base taken (order.Query item) rest = Does (work.Query item) taken rest
-order_step desc base taken order.Drain rest = Does work.Drain taken rest
-order_step desc base taken order.End rest = Ends (Ended rest)
-order_step desc base taken order.Refused rest = Does work.Refused taken rest
-order_step desc base taken (order.Body head size) rest =
-    body_step desc base taken head size (next_body taken size rest)
-order_step desc base taken order.BigBody rest = Ends (Stopped why.Big (base + taken))
+abbrev pub order_step : DescOf → (base due taken : ℕ) → Order → List ℕ → Step
+order_step desc base due taken order.Nothing rest = Does work.Nothing due taken rest
+order_step desc base due taken (order.Query item) rest = Does (work.Query item) due taken rest
+order_step desc base due taken order.Drain rest = Does work.Drain due taken rest
+order_step desc base due taken order.End rest = Ends (Ended rest)
+order_step desc base due taken order.Refused rest = Does work.Refused due taken rest
+order_step desc base due taken (order.Body head size) rest =
+    body_step desc base (body_due due size rest) taken head size (next_body taken size rest)
+order_step desc base due taken order.BigBody rest = Ends (Stopped why.Big (base + taken))
 
 -- the step at a line
 abbrev pub line_step : DescOf → (base taken : ℕ) → (bytes : List ℕ) → NextLine → Step
 line_step desc base taken bytes NoLine = Ends (Ended [])
 line_step desc base taken bytes (Unreadable cause) = Ends (Stopped cause (base + taken))
 line_step desc base taken bytes (Line line rest) =
-    order_step desc base (taken + line_take bytes) (order_of desc line) rest
+    order_step desc base (line_due bytes) (taken + line_take bytes) (order_of desc line) rest
 
 -- the next step of a session, whose input begins at the place `base` and of which so many bytes
 -- were taken
 abbrev pub step_of : DescOf → (base taken : ℕ) → List ℕ → Step
 step_of desc base taken bytes = line_step desc base taken bytes (next_line taken bytes)
 
--- what the lines of a session ask for, in order, one item a line, and how it ends
+-- what the lines of a session ask for, in order, one item a line, what is due of each, and how it
+-- ends
 pub record Session : Type 0 where
   pub items : List Work
+  pub dues : List ℕ
   pub end : SessionEnd
 
 -- a session with one more item in front
-abbrev pub after_item : Work → Session → Session
-after_item item session = record session { items = item ∷ session.items }
+abbrev pub after_item : Work → (due : ℕ) → Session → Session
+after_item item due session =
+    record session { items = item ∷ session.items; dues = due ∷ session.dues }
 
 -- the session that begins with this step, where `more` reads on
 abbrev pub session_at : (more : ℕ → List ℕ → Session) → Step → Session
-session_at more (Ends end) = record { items = []; end = end }
-session_at more (Does item taken rest) = after_item item (more taken rest)
+session_at more (Ends end) = record { items = []; dues = []; end = end }
+session_at more (Does item due taken rest) = after_item item due (more taken rest)
 
 -- the session of these bytes, in at most so many lines
 abbrev pub session_from : DescOf → (base turns taken : ℕ) → List ℕ → Session
-session_from desc base zero taken bytes = record { items = []; end = Ended [] }
+session_from desc base zero taken bytes = record { items = []; dues = []; end = Ended [] }
 session_from desc base (suc turns) taken bytes =
     session_at (session_from desc base turns) (step_of desc base taken bytes)
 

@@ -1,5 +1,5 @@
 -- What a run answers, writes and leaves, by the reading of its input.
-use Rattle.std.specs.Prelude.{ℕ, ◌≡◌, List, [], ◌∷◌, Bool, true, false, ⊤, if◌then◌else◌, nat_le, codes, Some}
+use Rattle.std.specs.Prelude.{ℕ, ◌≡◌, ◌≤◌, ◌+◌, List, [], ◌∷◌, ◌++◌, Bool, true, false, ⊤, if◌then◌else◌, ◌||◌, ◌⊎◌, nat_le, length, take, drop, All, codes, Some}
 use Rattle.std.specs.declared.option.Option.{Option}
 use Rattle.std.specs.Io.KnownBytes.{Appends}
 use Rattle.depot_io.specs.Causes.{Rose}
@@ -8,12 +8,20 @@ use Rattle.depot_cli.specs.declared.status.Status.{Status}
 use Rattle.depot_cli.specs.declared.status.Status.TheVariants as status
 use Rattle.depot_cli.specs.declared.status.DescCause.TheVariants as cause
 use Rattle.depot_cli.specs.Reading.{Script, Unopened, Misdescribed, Served, Session, SessionEnd, Ended, Stopped}
+use Rattle.table_desc.specs.Descriptions.{DescOf}
+use Rattle.depot_cli.specs.ScriptCalls.{IsLeftOf}
+use Rattle.depot_cli.specs.SerialJournal.{serial}
 use Rattle.depot_cli.specs.Replies.{replies, has_refused}
 
 -- the words of the command line are the one command that there is
 abbrev pub is_trial : List (List ℕ) → Bool
 is_trial (word ∷ []) = bytes_eq word (codes "trial")
 is_trial _ = false
+
+-- whether a word in place of the folder asks for a text
+abbrev pub asks_text : List ℕ → Bool
+asks_text word = bytes_eq word (codes "--help") || bytes_eq word (codes "-h")
+    || bytes_eq word (codes "--version")
 
 -- the status of a session that ended so
 abbrev pub session_status : Session → SessionEnd → Status
@@ -70,13 +78,65 @@ left_of (Unopened _ _) = []
 left_of (Misdescribed _) = []
 left_of (Served desc session) = left_behind session.end
 
--- a run that this reading stands for: its status is the reading's; and where it read its input to
--- its end, the sink has gained just the replies to all items, and the source has left what the
--- reading leaves
+-- the reply to the item of a session with this number, from 0; and nothing where there is none
+abbrev pub reply_at : DescOf → Session → (number : ℕ) → List ℕ
+reply_at desc session number = replies desc (1 + number)
+    (serial desc [] (take number session.items)) (take 1 (drop number session.items))
+
+-- the replies to so many items of a session
+abbrev pub first_replies : DescOf → Session → (many : ℕ) → List ℕ
+first_replies desc session many = replies desc 1 [] (take many session.items)
+
+-- the sink has gained the whole replies to the first so many items, and a front of the next one's
+pub record GainsFront (desc : DescOf) (session : Session) (got_before got_now : Option (List ℕ))
+    : Type 0 where
+  pub many : ℕ
+  pub within : many ≤ length session.items
+  pub front : ℕ
+  pub gained : Appends got_before got_now
+      (first_replies desc session many ++ take front (reply_at desc session many))
+
+-- the sink has gained the whole replies to the first so many items, and the last byte of each item
+-- behind them was not taken
+pub record GainsTaken (desc : DescOf) (session : Session)
+    (got_before got_now left_now : Option (List ℕ)) : Type 0 where
+  pub many : ℕ
+  pub within : many ≤ length session.items
+  pub untaken : All (λ (due : ℕ). IsLeftOf left_now due) (drop many session.dues)
+  pub gained : Appends got_before got_now (first_replies desc session many)
+
+-- what a run that was ended by want of memory or by the sink has gained
+abbrev pub GainsFrontOf : Script → (got_before got_now : Option (List ℕ)) → Type 0
+GainsFrontOf (Unopened _ _) got_before got_now = Appends got_before got_now []
+GainsFrontOf (Misdescribed _) got_before got_now = Appends got_before got_now []
+GainsFrontOf (Served desc session) got_before got_now = GainsFront desc session got_before got_now
+
+-- what a run that was ended by the source has gained
+abbrev pub GainsTakenOf : Script → (got_before got_now left_now : Option (List ℕ)) → Type 0
+GainsTakenOf (Unopened _ _) got_before got_now left_now = Appends got_before got_now []
+GainsTakenOf (Misdescribed _) got_before got_now left_now = Appends got_before got_now []
+GainsTakenOf (Served desc session) got_before got_now left_now =
+    GainsTaken desc session got_before got_now left_now
+
+-- what a run has put into the sink, by how it ended: the replies to all items, where it came to the
+-- end of its reading; nothing, where the command line or the description was not accepted; else the
+-- replies to the items before the one at which it ended
+abbrev pub Gains : Script → (got_before got_now left_now : Option (List ℕ)) → Status → Type 0
+Gains script before now left status.Done = Appends before now (replies_of script)
+Gains script before now left status.Refused = Appends before now (replies_of script)
+Gains script before now left (status.Input _ _) = Appends before now (replies_of script)
+Gains script before now left status.Usage = Appends before now []
+Gains script before now left (status.BadDescription _ _) = Appends before now []
+Gains script before now left status.ReadFault = GainsTakenOf script before now left
+Gains script before now left status.WriteFault = GainsFrontOf script before now
+Gains script before now left status.Memory = GainsFrontOf script before now
+
+-- a run that this reading stands for: its status is the reading's; the sink has gained what that
+-- says; and where it read its input to its end, the source has left what the reading leaves
 pub record IsRun (script : Script) (got_before got_now left_now : Option (List ℕ))
     (ended : Status) : Type 0 where
   pub told : IsStatusOf script ended
-  pub replied : is_whole ended ≡ true → Appends got_before got_now (replies_of script)
+  pub gains : Gains script got_before got_now left_now ended
   pub left : is_whole ended ≡ true → left_now ≡ Some (left_of script)
 
 -- a fault of a device is told only where its count rose in the run
@@ -95,3 +155,14 @@ EndsSession (status.Input _ _) = ⊤
 EndsSession status.ReadFault = ⊤
 EndsSession status.WriteFault = ⊤
 EndsSession status.Memory = ⊤
+
+-- where no device fails and the command line is one, a run has the status of its reading, but for
+-- want of memory
+abbrev pub HasCompleteRuns : Type 0
+HasCompleteRuns = (script : Script) (ended : Status)
+    (reads_before reads_now writes_before writes_now : ℕ)
+    → IsStatusOf script ended
+    → HasRunCauses reads_before reads_now writes_before writes_now ended
+    → (Rose reads_before reads_now → ⊥) → (Rose writes_before writes_now → ⊥)
+    → (ended ≡ status.Usage → ⊥)
+    → (ended ≡ status_of script) ⊎ (ended ≡ status.Memory)

@@ -1,6 +1,8 @@
 -- What the calls that read a script answer, by its reading.
-use Rattle.std.specs.Prelude.{ℕ, ◌≡◌, ◌≤◌, List, [], Option, Some, None, Bool, true, false, Result, Ok, Err, ⊤}
+use Rattle.std.specs.Prelude.{ℕ, ◌≡◌, ◌≤◌, ◌<◌, ◌-◌, List, [], Option, Some, None, length, Bool, true, false, Result, Ok, Err, ⊤}
+use Rattle.std.specs.Io.KnownBytes.{Appends}
 use Rattle.depot_io.specs.Causes.{Rose}
+use Rattle.depot_io.specs.Puts.{GainsPrefix}
 use Rattle.depot_cli.specs.declared.script.ScriptFault.{ScriptFault}
 use Rattle.depot_cli.specs.declared.script.ScriptFault.TheVariants.{Input, ReadFault, Memory}
 use Rattle.depot_cli.specs.declared.status.Status.{Status}
@@ -9,31 +11,47 @@ use Rattle.depot_cli.specs.declared.work.Work.{Work}
 use Rattle.depot_cli.specs.declared.work.Work.TheVariants as work
 use Rattle.view_meaning.specs.Partitions.{END}
 use Rattle.depot_cli.specs.Description.{Described, described}
-use Rattle.depot_cli.specs.Reading.{NextLine, NoLine, Unreadable, Line, NextBody, Unfinished, Body, Opening, Go, Broken, Step, Ends, Does, Ended, Stopped}
+use Rattle.depot_cli.specs.Reading.{NextLine, NoLine, Unreadable, Line, NextBody, Unfinished, Body, Opening, OpeningEnd, Go, Broken, Step, Ends, Does, Ended, Stopped}
 
 -- known bytes are these
 abbrev pub IsLeft : Option (List ℕ) → List ℕ → Type 0
 IsLeft left rest = left ≡ Some rest
 
--- the answer for a next line at a place: whether there is one, which it is, and what is left
--- behind it
-abbrev pub IsNextLine : NextLine → (place : ℕ) → (line : List ℕ)
-    → (left : Option (List ℕ)) → Result Bool ScriptFault → Type 0
-IsNextLine next place line left (Ok true) =
-    (rest : List ℕ) × (next ≡ Line line rest) × IsLeft left rest
-IsNextLine next place line left (Ok false) = (next ≡ NoLine) × IsLeft left []
-IsNextLine next place line left (Err (Input why at)) = (next ≡ Unreadable why) × (at ≡ place)
-IsNextLine next place line left (Err ReadFault) = ⊤
-IsNextLine next place line left (Err Memory) = ⊥
+-- at least so many bytes are left
+abbrev pub IsLeftOf : Option (List ℕ) → ℕ → Type 0
+IsLeftOf None count = ⊥
+IsLeftOf (Some bytes) count = count ≤ length bytes
 
--- the answer for a next body at a place: which it is, and what is left behind it
-abbrev pub IsNextBody : NextBody → (place : ℕ) → (body : List ℕ)
+-- the answer for a next line at a place: whether there is one, which it is, and what is left
+-- behind it; after a fault of the source so much is left at least as is due
+abbrev pub IsNextLine : NextLine → (due place : ℕ) → (line : List ℕ)
+    → (left : Option (List ℕ)) → Result Bool ScriptFault → Type 0
+IsNextLine next due place line left (Ok true) =
+    (rest : List ℕ) × (next ≡ Line line rest) × IsLeft left rest
+IsNextLine next due place line left (Ok false) = (next ≡ NoLine) × IsLeft left []
+IsNextLine next due place line left (Err (Input why at)) = (next ≡ Unreadable why) × (at ≡ place)
+IsNextLine next due place line left (Err ReadFault) = IsLeftOf left due
+IsNextLine next due place line left (Err Memory) = ⊥
+
+-- the last byte of a body of this size, in front of these bytes, was not taken: it has one
+abbrev pub IsBodyUndone : (size : ℕ) → List ℕ → (left : Option (List ℕ)) → Type 0
+IsBodyUndone size bytes left = (0 < size) × IsLeftOf left (length bytes - (size - 1))
+
+-- the answer for a next body at a place: which it is, and what is left behind it; after a fault of
+-- the source its last byte was not taken
+abbrev pub IsNextBody : NextBody → (size place : ℕ) → (bytes body : List ℕ)
     → (left : Option (List ℕ)) → Result (Unit {0}) ScriptFault → Type 0
-IsNextBody next place body left (Ok _) =
+IsNextBody next size place bytes body left (Ok _) =
     (rest : List ℕ) × (next ≡ Body body rest) × IsLeft left rest
-IsNextBody next place body left (Err (Input why at)) = (next ≡ Unfinished why) × (at ≡ place)
-IsNextBody next place body left (Err ReadFault) = ⊤
-IsNextBody next place body left (Err Memory) = ⊤
+IsNextBody next size place bytes body left (Err (Input why at)) =
+    (next ≡ Unfinished why) × (at ≡ place)
+IsNextBody next size place bytes body left (Err ReadFault) = IsBodyUndone size bytes left
+IsNextBody next size place bytes body left (Err Memory) = ⊤
+
+-- no byte behind the `go` line was taken
+abbrev pub IsBeforeGo : OpeningEnd → Option (List ℕ) → Type 0
+IsBeforeGo (Go taken rest) left = IsLeftOf left (length rest)
+IsBeforeGo (Broken why place) left = ⊤
 
 -- the answer for an opening: what its lines describe, and what was taken and is left behind it
 abbrev pub IsOpening : Opening → (taken : ℕ) → (left : Option (List ℕ))
@@ -41,17 +59,29 @@ abbrev pub IsOpening : Opening → (taken : ℕ) → (left : Option (List ℕ))
 IsOpening opening taken left (Ok before) = (rest : List ℕ)
     × (before ≡ described opening.lines) × (opening.end ≡ Go taken rest) × IsLeft left rest
 IsOpening opening taken left (Err (Input why place)) = opening.end ≡ Broken why place
-IsOpening opening taken left (Err ReadFault) = ⊤
+IsOpening opening taken left (Err ReadFault) = IsBeforeGo opening.end left
 IsOpening opening taken left (Err Memory) = ⊤
 
--- the answer for a step: what it does, with what was taken and is left behind it, or how it ends
+-- the last byte of what a step does was not taken
+abbrev pub IsUndone : Step → Option (List ℕ) → Type 0
+IsUndone (Ends end) left = ⊤
+IsUndone (Does work due taken rest) left = IsLeftOf left due
+
+-- what a step does, with what was taken and is left behind it
+pub record IsDone (step : Step) (taken : ℕ) (left : Option (List ℕ)) (work : Work) : Type 0 where
+  pub due : ℕ
+  pub rest : List ℕ
+  pub does : step ≡ Does work due taken rest
+  pub is_left : IsLeft left rest
+
+-- the answer for a step: what it does, or how it ends; after a fault of the source its last byte
+-- was not taken
 abbrev pub IsStep : Step → (taken : ℕ) → (left : Option (List ℕ))
     → Result (Option Work) ScriptFault → Type 0
-IsStep step taken left (Ok (Some work)) =
-    (rest : List ℕ) × (step ≡ Does work taken rest) × IsLeft left rest
+IsStep step taken left (Ok (Some work)) = IsDone step taken left work
 IsStep step taken left (Ok None) = (rest : List ℕ) × (step ≡ Ends (Ended rest)) × IsLeft left rest
 IsStep step taken left (Err (Input why place)) = step ≡ Ends (Stopped why place)
-IsStep step taken left (Err ReadFault) = ⊤
+IsStep step taken left (Err ReadFault) = IsUndone step left
 IsStep step taken left (Err Memory) = ⊤
 
 -- the count of the source's faults rose where the source is blamed, and else stayed
@@ -87,6 +117,20 @@ IsReplyCause before now (Err status.Usage) = ⊥
 IsReplyCause before now (Err (status.BadDescription _ _)) = ⊥
 IsReplyCause before now (Err (status.Input _ _)) = ⊥
 IsReplyCause before now (Err status.ReadFault) = ⊥
+
+-- what the sink has gained of a reply: all of it; where it failed, a front short of all; and where
+-- there was no memory, nothing
+abbrev pub IsReplied : {T : Type 0} → (before now : Option (List ℕ)) → (reply : List ℕ)
+    → Result T Status → Type 0
+IsReplied before now reply (Ok _) = Appends before now reply
+IsReplied before now reply (Err status.WriteFault) = GainsPrefix before now reply
+IsReplied before now reply (Err status.Memory) = Appends before now []
+IsReplied before now reply (Err status.Done) = ⊥
+IsReplied before now reply (Err status.Refused) = ⊥
+IsReplied before now reply (Err status.Usage) = ⊥
+IsReplied before now reply (Err (status.BadDescription _ _)) = ⊥
+IsReplied before now reply (Err (status.Input _ _)) = ⊥
+IsReplied before now reply (Err status.ReadFault) = ⊥
 
 -- the answer for an opening that was taken off a lent source, and how many bytes it took
 abbrev pub IsOpened : Opening → (left : Option (List ℕ))

@@ -10,8 +10,8 @@ use Rattle.view_meaning.specs.Drains.{drained}
 use Rattle.depot_cli.specs.declared.work.Work.{Work}
 use Rattle.depot_cli.specs.declared.work.Work.TheVariants as work
 
--- the journal after an item: a delivery that is no repeat is loaded, a drain installs each partition
--- of a view that is not settled, and nothing else changes it
+-- the journal after an item: a delivery that is no repeat is loaded, a drain installs each
+-- partition of a view that is not settled, and nothing else changes it
 abbrev pub journal_after : DescOf → List Entry → Work → List Entry
 journal_after desc journal work.Nothing = journal
 journal_after desc journal work.Refused = journal

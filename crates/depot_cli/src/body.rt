@@ -157,6 +157,7 @@ fn read_cells(alloc: Global, columns: &[Column], fields: &ByteRecord) -> Result<
 }
 
 /// The cell of a type that a field is, if it is one.
+#[inline(always)]
 pub fn field_cell(alloc: Global, ty: Ty, field: &[u8]) -> Result<Option<Cell>, Memory>
     ensures exact { IfOk result (λ cell. cell ≡ result_ok (cell_of ty field.now)) }
 {

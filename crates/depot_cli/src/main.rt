@@ -9,6 +9,7 @@ mod columns;
 mod description;
 mod drain;
 mod filter;
+mod help;
 mod journal;
 mod laws;
 mod names;
@@ -23,6 +24,8 @@ mod sieve;
 mod status;
 mod step;
 #[cfg(test)]
+mod tests_ends;
+#[cfg(test)]
 mod tests_lines;
 #[cfg(test)]
 mod tests_rows;
@@ -36,23 +39,19 @@ mod versions;
 mod words;
 mod work;
 
-pub use crate::laws::serial_is_legal;
+use crate::help::text_asked;
+pub use crate::laws::{runs_are_complete, serial_is_legal};
 pub use crate::run::run;
 pub use crate::status::{DescCause, InputEnd, Status};
-use depot_io::{StdSink, StdSource};
+use depot_io::{StdSink, StdSource, put_all};
 use std::env;
 use std::process::ExitCode;
 
-/// Runs the words behind the folder, which is not looked at yet, over standard input and output.
-/// Where the words cannot be read, they are no command.
+/// Prints the text that the first word asks for, or runs the words behind the folder, which is not
+/// looked at yet. Where the words cannot be read, they are no command.
 fn main(rt: HostRuntime) -> ExitCode {
-    let status = match words_behind_folder(&rt) {
-        Some(words) => run(
-            rt.alloc(),
-            &words,
-            &mut StdSource::new(&rt),
-            &mut StdSink::new(&rt),
-        ),
+    let status = match words_of(&rt) {
+        Some(words) => answer(&rt, &words),
         None => Status::Usage,
     };
     if status.code() >= 2 {
@@ -61,10 +60,34 @@ fn main(rt: HostRuntime) -> ExitCode {
     ExitCode::from(status.code())
 }
 
-/// The words behind the program's name and the folder.
-fn words_behind_folder(rt: &HostRuntime) -> Option<Vec<String>> {
+/// The words behind the program's name.
+fn words_of(rt: &HostRuntime) -> Option<Vec<String>> {
     match env::args(rt) {
-        Ok(args) => args.skip(2).collect(rt.alloc()).ok(),
+        Ok(args) => args.skip(1).collect(rt.alloc()).ok(),
         Err(_) => None,
+    }
+}
+
+/// Answers words over standard input and output.
+fn answer(rt: &HostRuntime, words: &[String]) -> Status {
+    match words {
+        [first, others @ ..] => match text_asked(first) {
+            Some(text) => print(rt, text),
+            None => run(
+                rt.alloc(),
+                others,
+                &mut StdSource::new(rt),
+                &mut StdSink::new(rt),
+            ),
+        },
+        [] => Status::Usage,
+    }
+}
+
+/// Prints a text to standard output.
+fn print(rt: &HostRuntime, text: &[u8]) -> Status {
+    match put_all(&mut StdSink::new(rt), text) {
+        Ok(()) => Status::Done,
+        Err(_) => Status::WriteFault,
     }
 }

@@ -20,6 +20,10 @@ use table_desc::Desc;
 /// Runs a command: `words` are those behind the folder. The one command is `trial`. It reads a
 /// description up to its `go` line and then session lines off the source, and puts the replies
 /// into the sink. Other words are Usage, and nothing is read or written.
+///
+/// A run that ends early has put the whole replies to the items before the one at which it ended;
+/// where the sink failed, a front of that one's reply too. After a fault of the source no other
+/// item was taken to its last byte.
 pub fn run<S: Source, O: Sink>(
     alloc: Global,
     words: &[String],

@@ -5,7 +5,7 @@ ghost use Rattle.depot_io.specs.Lines.{LIMIT, line_take};
 ghost use Rattle.depot_cli.specs.Words.{words};
 ghost use Rattle.depot_cli.specs.Description.{IsServed, is_go};
 ghost use Rattle.depot_cli.specs.Orders.{BODY_LIMIT};
-ghost use Rattle.depot_cli.specs.Reading.{next_line, next_body, body_work as work_of_body, step_of, opening};
+ghost use Rattle.depot_cli.specs.Reading.{line_due, next_line, next_body, body_work as work_of_body, step_of, opening};
 ghost use Rattle.depot_cli.specs.ScriptCalls.{IsAnswerable, IsNextLine, IsNextBody, IsOpening, IsStep, IsScriptCause};
 
 use crate::body::read_rows;
@@ -39,14 +39,14 @@ impl From<Memory> for ScriptFault {
     }
 }
 
-/// Takes the next line, and says whether there is one. `base` is the place at which the reader's
-/// input begins.
+/// Takes the next line, and says whether there is one. After `ReadFault` its LF was not taken.
+/// `base` is the place at which the reader's input begins.
 pub fn take_line<S: Source>(base: u64, reader: &mut LineReader<S>) -> Result<bool, ScriptFault>
     requires in_input { base ≤ LIMIT }
     requires not_long { reader.old.taken ≤ LIMIT }
     ensures answer { IfSome (S.bytes_left reader.old.source) (λ bytes.
-        IsNextLine (next_line reader.old.taken bytes) (base + reader.old.taken) reader.new.line
-        (S.bytes_left reader.new.source) result) }
+        IsNextLine (next_line reader.old.taken bytes) (line_due bytes) (base + reader.old.taken)
+        reader.new.line (S.bytes_left reader.new.source) result) }
     ensures taken { IfSome (S.bytes_left reader.old.source) (λ bytes.
         IfOk result (λ _. reader.new.taken ≡ reader.old.taken + line_take bytes)) }
     ensures more { IfOk result (λ there. there ≡ true → reader.old.taken < reader.new.taken) }
@@ -71,7 +71,7 @@ pub fn take_line<S: Source>(base: u64, reader: &mut LineReader<S>) -> Result<boo
     }
 }
 
-/// Takes the next body, of `size` bytes.
+/// Takes the next body, of `size` bytes. After `ReadFault` its last byte was not taken.
 fn take_body<S: Source>(
     base: u64,
     size: u64,
@@ -81,8 +81,8 @@ fn take_body<S: Source>(
     requires in_input { base ≤ LIMIT }
     requires not_long { reader.old.taken ≤ LIMIT }
     ensures answer { IfSome (S.bytes_left reader.old.source) (λ bytes.
-        IsNextBody (next_body reader.old.taken size bytes) (base + reader.old.taken) body.new.items
-        (S.bytes_left reader.new.source) result) }
+        IsNextBody (next_body reader.old.taken size bytes) size (base + reader.old.taken) bytes
+        body.new.items (S.bytes_left reader.new.source) result) }
     ensures taken { OnOk result (reader.new.taken ≡ reader.old.taken + size) }
     ensures len { OnOk result (length body.new.items ≡ size) }
     ensures limit { reader.new.taken ≤ LIMIT }

@@ -1,12 +1,11 @@
 //! A session: each item is read, done and replied to before the next one is read.
 
 ghost use Rattle.std.specs.Prelude.{◌≡◌, ◌≤◌, [], IfSome, OnOk, if◌then◌else◌};
-ghost use Rattle.std.specs.Io.KnownBytes.{Appends};
 ghost use Rattle.depot_io.specs.Causes.{Rose};
 ghost use Rattle.depot_io.specs.Lines.{LIMIT};
 ghost use Rattle.depot_cli.specs.Description.{IsServed};
 ghost use Rattle.depot_cli.specs.Reading.{Served, session};
-ghost use Rattle.depot_cli.specs.ScriptCalls.{IsAnswerable, IsReplyCause, status_of_fault};
+ghost use Rattle.depot_cli.specs.ScriptCalls.{IsAnswerable, IsReplied, IsReplyCause, status_of_fault};
 ghost use Rattle.depot_cli.specs.SerialJournal.{journal_after};
 ghost use Rattle.depot_cli.specs.KeptJournals.{IsKept};
 ghost use Rattle.depot_cli.specs.Replies.{is_refused, reply};
@@ -91,7 +90,8 @@ fn serve_items<S: Source, O: Sink>(
     }
 }
 
-/// Does what an item asks for, and puts the reply into the sink.
+/// Does what an item asks for, and puts the reply into the sink. Where that fails the sink has got
+/// a front of the reply, and where there was no memory nothing.
 fn serve_item<O: Sink>(
     alloc: Global,
     desc: &Desc,
@@ -103,8 +103,8 @@ fn serve_item<O: Sink>(
     requires served { IsServed desc.now }
     requires kept { IsKept desc.now journal.old }
     requires in_range { IsAnswerable work }
-    ensures replied { OnOk result (Appends (O.bytes_got sink.old) (O.bytes_got sink.new)
-        (reply desc.now line journal.old.entries work)) }
+    ensures replied { IsReplied (O.bytes_got sink.old) (O.bytes_got sink.new)
+        (reply desc.now line journal.old.entries work) result }
     ensures ok { OnOk result
         (journal.new.entries ≡ journal_after desc.now journal.old.entries work) }
     ensures kept { OnOk result (IsKept desc.now journal.new) }

@@ -1,5 +1,6 @@
 //! Tests of the top call, over sources and sinks in memory.
 
+use crate::help::text_asked;
 use crate::run::run;
 use crate::status::{DescCause, InputEnd, Status};
 use depot_io::{NeverSource, Sink, Source, VecSink, VecSource};
@@ -164,45 +165,16 @@ fn other_words_read_and_write_nothing(rt: HostRuntime) -> Result<(), Fail> {
     Ok(())
 }
 
-/// The script of the two tests below, and its replies.
-const SESSION: &[u8] = b"deliver f 0 0 8\nr,3,a,5\nquery r 0 10\n";
-
-const REPLIES: &[u8] = b"loaded f 0 entry 1 kept 1 aside 0\nanswer at 1 parts 1\n\
-part r 0 version 1 upto 1 mark open rows 1\n3,a,5\n";
-
 #[test]
-fn a_source_that_fails_ends_the_run(rt: HostRuntime) -> Result<(), Fail> {
-    let alloc = rt.alloc();
-    // Each byte of the lines is taken by a call of its own, each body and each end by one.
-    for call in 1..110 {
-        let mut source = VecSource::new(script(alloc, SESSION)?, Vec::from_slice(alloc, &[call])?);
-        let mut sink = VecSink::new(alloc, 4_096, Vec::new(alloc))?;
-        let status = trial(alloc, &mut source, &mut sink)?;
-        if call <= 96 {
-            assert_eq!(rt; status, Status::ReadFault);
-        } else {
-            assert_eq!(rt; status, Status::Done);
-            assert_eq!(rt; sink.bytes(), REPLIES);
+fn the_first_word_may_ask_for_a_text(rt: HostRuntime) {
+    for word in ["--help", "-h", "--version"] {
+        let text = text_asked(word).unwrap_or(&[]);
+        assert!(rt; text.starts_with(b"depot_cli"), "at {word}");
+        for line in text.split(|byte| *byte == b'\n') {
+            assert!(rt; line.len() <= 80, "at {word}");
         }
-        assert!(rt; REPLIES.starts_with(sink.bytes()));
     }
-    Ok(())
-}
-
-#[test]
-fn a_sink_that_fails_ends_the_run(rt: HostRuntime) -> Result<(), Fail> {
-    let alloc = rt.alloc();
-    let cases: [(u64, Status, usize); 3] = [
-        (1, Status::WriteFault, 0),
-        (2, Status::WriteFault, 34),
-        (3, Status::Done, REPLIES.len()),
-    ];
-    for (call, status, got) in cases {
-        let mut source = NeverSource::new(script(alloc, SESSION)?);
-        let mut sink = VecSink::new(alloc, 4_096, Vec::from_slice(alloc, &[call])?)?;
-        assert_eq!(rt; trial(alloc, &mut source, &mut sink)?, status);
-        assert_eq!(rt; sink.bytes().len(), got);
-        assert!(rt; REPLIES.starts_with(sink.bytes()));
+    for word in [".", "trial", "help", "--helpful", ""] {
+        assert!(rt; text_asked(word).is_none(), "at {word}");
     }
-    Ok(())
 }

@@ -1,13 +1,18 @@
--- The run is that of the session behind the description.
+-- The run is that of the session behind the description, where that was read.
 use Rattle.std.proofs.Common.{sym, ◌∙◌}
-use Rattle.depot_cli.proofs.KnownLemmas.{IfSome-map}
-use Rattle.depot_cli.proofs.RunLemmas.{IsRun-opened}
+use Rattle.std.proofs.lemmas.Option.{IfSome_then}
+use Rattle.depot_cli.proofs.RunLemmas.{IsRun-opened, IsRun-unopened}
 use Rattle.depot_cli.proofs.run.trial.Goals as goal
 
 pub returns-clause-run : goal.returns-clause-run
 returns-clause-run g c =
-    IfSome-map _ _ _ (λ input opened.
+    IfSome_then _ c.in-Ok.ensures.answer (λ input opened.
     IsRun-opened input c.in-Ok.opened.0 c.into_desc-desc.result c.in-Ok.opened.1 _ _ _ _ _
     opened (sym c.bad.ensures.exact ∙ c.in-None.is) c.into_desc-desc.ensures.exact
     c.serve_source.ensures.run)
-    c.in-Ok.ensures.answer
+
+pub returns-in-Err-clause-run : goal.returns-in-Err-clause-run
+returns-in-Err-clause-run g c =
+    rw c.status_of.ensures (IfSome_then _ c.in-Err.ensures.answer (λ input breaks.
+    IsRun-unopened input (g.O.Sink.bytes_got c.args.sink.now)
+    (g.S.Source.bytes_left c.open.new.source) c.in-Err.fault breaks))

@@ -1,10 +1,11 @@
 -- Each line is read by what the lemmas on openings say of it.
 use Rattle.std.proofs.Common.{◌≡◌, ◌+◌, List, ℕ, false, arith, sym, ◌∙◌, ap, refl}
+use Rattle.std.proofs.lemmas.Option.{IfSome_then}
 use Rattle.depot_cli.specs.Words.{words}
 use Rattle.depot_cli.specs.Description.{Described, is_go, with_line}
 use Rattle.depot_cli.specs.Reading.{opening}
-use Rattle.depot_cli.proofs.KnownLemmas.{IfSome-map}
-use Rattle.depot_cli.proofs.OpeningLemmas.{HasOpened-init, HasOpened-line, lines-with_line}
+use Rattle.depot_cli.proofs.KnownLemmas.{Err-passed}
+use Rattle.depot_cli.proofs.OpeningLemmas.{HasOpened-fault, HasOpened-init, HasOpened-line, lines-with_line}
 use Rattle.depot_cli.proofs.script.read_opening.Goals as goal
 
 pub lines-init : goal.lines-init
@@ -29,12 +30,21 @@ lines-preserved g c =
     let count : c.add_line.new.self.lines ≡ c.lines.draft.lines + 1 =
     ap (λ (before : Described). before.lines) next ∙ counted in
     record {
-      opened = rw next (IfSome-map _ _ _ (λ bytes opened.
+      opened = rw next (IfSome_then _ c.lines.invariant.opened (λ bytes opened.
           HasOpened-line (opening bytes) _ _ _ 0 _ _ _ _ opened there
-          c.in_ok-take_line.ensures.answer c.in_ok-take_line.ensures.taken goes)
-          c.lines.invariant.opened);
+          c.in_ok-take_line.ensures.answer c.in_ok-take_line.ensures.taken goes));
       few = omega (arith, c.in_ok-take_line.ensures.more there);
       within = omega (arith, c.in_ok-take_line.ensures.limit);
       faults = c.in_ok-take_line.ensures.cause ∙ c.lines.invariant.faults;
       place = c.in_ok-take_line.ensures.place ∙ c.lines.invariant.place;
     }
+
+pub returns-in_err-take_line-clause-answer : goal.returns-in_err-take_line-clause-answer
+returns-in_err-take_line-clause-answer g c =
+    rw (Err-passed c.from_residual.result c.in_err-take_line.field-0.0 c.from_residual.ensures.1)
+    (IfSome_then _ c.lines.invariant.opened (λ bytes opened.
+    HasOpened-fault (opening bytes) c.lines.draft c.lines.reader.taken c.take_line.new.reader.taken
+    (0 + c.lines.reader.taken) c.take_line.new.reader.line
+    (g.S.Source.bytes_left c.lines.reader.source)
+    (g.S.Source.bytes_left c.take_line.new.reader.source) c.in_err-take_line.field-0.0 opened
+    (omega arith) c.in_err-take_line.ensures.answer))

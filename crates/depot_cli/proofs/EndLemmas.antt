@@ -1,0 +1,259 @@
+-- How a session ends early, by what was served of it: by an input that cannot be read on, by a
+-- fault of a device or for want of memory. There is one lemma for each call at which it may end.
+use Rattle.std.proofs.Common.{◌≡◌, ℕ, suc, ◌+◌, ◌≤◌, List, [], ◌∷◌, ◌++◌, length, Bool, refl, sym, ap, ◌∙◌, arith, append-nil, drop, length-append, subst, take}
+use Rattle.std.proofs.Math.Seq.{drop-append_seam, take-append_seam}
+use Rattle.std.specs.Prelude.{IfSome, Option, Some, Ok, Err, All}
+use Rattle.std.specs.Io.KnownBytes.{Appends}
+use Rattle.std.proofs.KnownBytes.{Appends-nil, Appends-trans}
+use Rattle.table_desc.specs.Descriptions.{DescOf}
+use Rattle.view_meaning.specs.declared.journal.Entry.{Entry}
+use Rattle.depot_io.specs.Puts.{GainsPrefix}
+use Rattle.depot_cli.specs.declared.script.ScriptFault.{ScriptFault}
+use Rattle.depot_cli.specs.declared.script.ScriptFault.TheVariants.{Input, ReadFault, Memory}
+use Rattle.depot_cli.specs.declared.status.Status.{Status}
+use Rattle.depot_cli.specs.declared.status.Status.TheVariants as status
+use Rattle.depot_cli.specs.declared.work.Work.{Work}
+use Rattle.depot_cli.specs.Reading.{Served, Session, Step, Does, session, session_at, session_from, step_of}
+use Rattle.depot_cli.specs.ScriptCalls.{IsLeftOf, IsReplied, IsStep, status_of_fault}
+use Rattle.depot_cli.specs.SerialJournal.{serial}
+use Rattle.depot_cli.specs.Replies.{replies, reply}
+use Rattle.depot_cli.specs.Runs.{GainsFront, GainsTaken, IsRun, first_replies, reply_at}
+use Rattle.depot_cli.proofs.KnownLemmas.{IfSome-known}
+use Rattle.depot_cli.proofs.DueLemmas.{All-undone, All-untaken}
+use Rattle.depot_cli.proofs.SessionLemmas.{Appends-reply, HasServed, after_items, session_next}
+
+-- the replies to the items in front of others
+first_replies-served : (desc : DescOf) (session : Session) (items more : List Work)
+    → session.items ≡ items ++ more
+    → replies desc 1 [] items ≡ first_replies desc session (length items)
+first_replies-served desc session items more splits =
+    ap (λ (items : List Work). replies desc 1 [] items)
+    (sym (ap (λ (all : List Work). take (length items) all) splits ∙ take-append_seam items more))
+
+-- the reply to the item behind others
+reply_at-served : (desc : DescOf) (session : Session) (items more : List Work) (work : Work)
+    → session.items ≡ items ++ work ∷ more
+    → reply desc (1 + length items) (serial desc [] items) work
+    ≡ reply_at desc session (length items)
+reply_at-served desc session items more work splits =
+    sym (ap (λ (front : List Work). replies desc (1 + length items) (serial desc [] front)
+    (take 1 (drop (length items) session.items)))
+    (ap (λ (all : List Work). take (length items) all) splits
+    ∙ take-append_seam items (work ∷ more))
+    ∙ ap (λ (behind : List Work). replies desc (1 + length items) (serial desc [] items)
+    (take 1 behind))
+    (ap (λ (all : List Work). drop (length items) all) splits
+    ∙ drop-append_seam items (work ∷ more))
+    ∙ append-nil (reply desc (1 + length items) (serial desc [] items) work))
+
+-- items are no more than they are with others behind them
+length-front : (all items more : List Work) → all ≡ items ++ more → length items ≤ length all
+length-front all items more splits = omega (arith, ap length splits, length-append items more)
+
+-- the first items were replied to, and nothing more was put
+GainsFront-served : (desc : DescOf) (session : Session) (items more : List Work)
+    (got_before got_now : Option (List ℕ))
+    → session.items ≡ items ++ more
+    → Appends got_before got_now (replies desc 1 [] items)
+    → GainsFront desc session got_before got_now
+GainsFront-served desc session items more got_before got_now splits replied = record {
+  many = length items;
+  within = length-front session.items items more splits;
+  front = 0;
+  gained = subst (λ (text : List ℕ). Appends got_before got_now text)
+      (first_replies-served desc session items more splits
+      ∙ sym (append-nil (first_replies desc session (length items))))
+      replied;
+}
+
+-- nothing was put
+pub GainsFront-start : (desc : DescOf) (session : Session) (got : Option (List ℕ))
+    → GainsFront desc session got got
+GainsFront-start desc session got =
+    GainsFront-served desc session [] session.items got got refl (Appends-nil got)
+
+-- the first items were replied to, and of the reply to the next one a front was put
+GainsFront-cut : (desc : DescOf) (session : Session) (items more : List Work) (work : Work)
+    (got_before got_now got_next : Option (List ℕ))
+    → session.items ≡ items ++ work ∷ more
+    → Appends got_before got_now (replies desc 1 [] items)
+    → GainsPrefix got_now got_next (reply desc (1 + length items) (serial desc [] items) work)
+    → GainsFront desc session got_before got_next
+GainsFront-cut desc session items more work got_before got_now got_next splits replied cut =
+    record {
+      many = length items;
+      within = length-front session.items items (work ∷ more) splits;
+      front = cut.count;
+      gained = subst (λ (text : List ℕ). Appends got_before got_next text)
+          (ap (λ (text : List ℕ). text
+          ++ take cut.count (reply desc (1 + length items) (serial desc [] items) work))
+          (first_replies-served desc session items (work ∷ more) splits)
+          ∙ ap (λ (text : List ℕ). first_replies desc session (length items)
+          ++ take cut.count text)
+          (reply_at-served desc session items more work splits))
+          (Appends-trans got_before got_now got_next (replies desc 1 [] items)
+          (take cut.count (reply desc (1 + length items) (serial desc [] items) work))
+          replied cut.gained);
+    }
+
+-- the first items were replied to, and nothing behind them was taken to its last byte
+GainsTaken-served : (desc : DescOf) (session : Session) (items more : List Work)
+    (dues others : List ℕ) (got_before got_now left : Option (List ℕ))
+    → session.items ≡ items ++ more → session.dues ≡ dues ++ others
+    → length dues ≡ length items
+    → Appends got_before got_now (replies desc 1 [] items)
+    → All (λ (due : ℕ). IsLeftOf left due) others
+    → GainsTaken desc session got_before got_now left
+GainsTaken-served desc session items more dues others got_before got_now left splits dues_split
+    paired replied untaken = record {
+      many = length items;
+      within = length-front session.items items more splits;
+      untaken = subst (λ (dues : List ℕ). All (λ (due : ℕ). IsLeftOf left due) dues)
+          (sym (drop-append_seam dues others)
+          ∙ ap (λ (number : ℕ). drop number (dues ++ others)) paired
+          ∙ ap (λ (all : List ℕ). drop (length items) all) (sym dues_split))
+          untaken;
+      gained = subst (λ (text : List ℕ). Appends got_before got_now text)
+          (first_replies-served desc session items more splits) replied;
+    }
+
+-- nothing was put, and nothing was taken
+pub GainsTaken-start : (desc : DescOf) (base : ℕ) (bytes : List ℕ) (got left : Option (List ℕ))
+    → IsLeftOf left (length bytes)
+    → GainsTaken desc (session desc base bytes) got got left
+GainsTaken-start desc base bytes got left is_left =
+    GainsTaken-served desc (session desc base bytes) [] (session desc base bytes).items []
+    (session desc base bytes).dues got got left refl refl refl (Appends-nil got)
+    (All-untaken desc base (suc (length bytes)) 0 bytes left is_left)
+
+-- where a session ends behind items, the replies to them are those to all
+replies-all : (desc : DescOf) (items : List Work) (got_before got_now : Option (List ℕ))
+    → Appends got_before got_now (replies desc 1 [] items)
+    → Appends got_before got_now (replies desc 1 [] (items ++ []))
+replies-all desc items got_before got_now replied =
+    subst (λ (items : List Work). Appends got_before got_now (replies desc 1 [] items))
+    (sym (append-nil items)) replied
+
+-- the run of a session whose next step was not read
+IsRun-fault : (desc : DescOf) (base turns taken taken_now : ℕ) (bytes : List ℕ) (step : Step)
+    (items : List Work) (dues : List ℕ) (got_before got_now left : Option (List ℕ))
+    (fault : ScriptFault)
+    → step_of desc base taken bytes ≡ step
+    → length dues ≡ length items
+    → Appends got_before got_now (replies desc 1 [] items)
+    → IsStep step taken_now left (Err fault)
+    → IsRun (Served desc (after_items items dues (session_at (session_from desc base turns) step)))
+    got_before got_now left (status_of_fault fault)
+IsRun-fault desc base turns taken taken_now bytes step items dues got_before got_now left
+    (Input why place) is_step paired replied stops =
+    subst (λ (step : Step). IsRun (Served desc (after_items items dues
+    (session_at (session_from desc base turns) step)))
+    got_before got_now left (status.Input why place))
+    (sym stops)
+    (record {
+      told = refl;
+      gains = replies-all desc items got_before got_now replied;
+      left = λ whole. cc;
+    })
+IsRun-fault desc base turns taken taken_now bytes step items dues got_before got_now left
+    ReadFault is_step paired replied undone =
+    let more = session_at (session_from desc base turns) step in
+    record {
+      told = tt;
+      gains = GainsTaken-served desc (after_items items dues more) items more.items dues more.dues
+          got_before got_now left refl refl paired replied
+          (All-undone desc base turns taken bytes step left is_step undone);
+      left = λ whole. cc;
+    }
+IsRun-fault desc base turns taken taken_now bytes step items dues got_before got_now left
+    Memory is_step paired replied stops =
+    let more = session_at (session_from desc base turns) step in
+    record {
+      told = tt;
+      gains = GainsFront-served desc (after_items items dues more) items more.items got_before
+          got_now refl replied;
+      left = λ whole. cc;
+    }
+
+-- the run of a session whose next item was not replied to
+IsRun-unreplied : (desc : DescOf) (more : List Work) (session : Session) (items : List Work)
+    (work : Work) (got_before got_now got_next left : Option (List ℕ)) (ended : Status)
+    → session.items ≡ items ++ work ∷ more
+    → Appends got_before got_now (replies desc 1 [] items)
+    → IsReplied {T = Unit {0}} got_now got_next
+    (reply desc (1 + length items) (serial desc [] items) work) (Err ended)
+    → IsRun (Served desc session) got_before got_next left ended
+IsRun-unreplied desc more session items work got_before got_now got_next left status.WriteFault
+    splits replied cut = record {
+      told = tt;
+      gains = GainsFront-cut desc session items more work got_before got_now got_next splits replied
+          cut;
+      left = λ whole. cc;
+    }
+IsRun-unreplied desc more session items work got_before got_now got_next left status.Memory splits
+    replied kept = record {
+      told = tt;
+      gains = GainsFront-served desc session items (work ∷ more) got_before got_next splits
+          (Appends-reply got_before got_now got_next (replies desc 1 [] items) []
+          (replies desc 1 [] items) replied kept (append-nil (replies desc 1 [] items)));
+      left = λ whole. cc;
+    }
+IsRun-unreplied desc more session items work got_before got_now got_next left status.Done splits
+    replied never = absurd never
+IsRun-unreplied desc more session items work got_before got_now got_next left status.Refused splits
+    replied never = absurd never
+IsRun-unreplied desc more session items work got_before got_now got_next left status.Usage splits
+    replied never = absurd never
+IsRun-unreplied desc more session items work got_before got_now got_next left
+    (status.BadDescription line cause) splits replied never = absurd never
+IsRun-unreplied desc more session items work got_before got_now got_next left
+    (status.Input why place) splits replied never = absurd never
+IsRun-unreplied desc more session items work got_before got_now got_next left status.ReadFault
+    splits replied never = absurd never
+
+-- the next step could not be read
+pub IsRun-stopped : (desc : DescOf) (base : ℕ) (whole : Session)
+    (got_before got_now : Option (List ℕ)) (journal : List Entry) (line : ℕ) (refused : Bool)
+    (taken taken_now : ℕ) (left left_now : Option (List ℕ)) (fault : ScriptFault)
+    → HasServed desc base whole got_before got_now journal line refused taken left
+    → IfSome left (λ bytes.
+    IsStep (step_of desc base taken bytes) taken_now left_now (Err fault))
+    → IsRun (Served desc whole) got_before got_now left_now (status_of_fault fault)
+IsRun-stopped desc base whole got_before got_now journal line refused taken taken_now left left_now
+    fault served stepped =
+    subst (λ (whole : Session). IsRun (Served desc whole) got_before got_now left_now
+    (status_of_fault fault))
+    served.goes_on
+    (IsRun-fault desc base served.turns taken taken_now served.rest
+    (step_of desc base taken served.rest) served.items served.dues got_before got_now left_now
+    fault refl served.paired served.replied (IfSome-known left served.rest
+    (λ bytes. IsStep (step_of desc base taken bytes) taken_now left_now (Err fault))
+    served.is_left stepped))
+
+-- the next item could not be replied to
+pub IsRun-cut : (desc : DescOf) (base : ℕ) (whole : Session)
+    (got_before got_now got_next : Option (List ℕ)) (journal : List Entry) (line : ℕ)
+    (refused : Bool) (taken taken_now : ℕ) (left left_now : Option (List ℕ)) (work : Work)
+    (ended : Status)
+    → HasServed desc base whole got_before got_now journal line refused taken left
+    → IfSome left (λ bytes.
+    IsStep (step_of desc base taken bytes) taken_now left_now (Ok (Some work)))
+    → IsReplied {T = Unit {0}} got_now got_next (reply desc line journal work) (Err ended)
+    → IsRun (Served desc whole) got_before got_next left_now ended
+IsRun-cut desc base whole got_before got_now got_next journal line refused taken taken_now left
+    left_now work ended served stepped cut =
+    let step = IfSome-known left served.rest
+    (λ bytes. IsStep (step_of desc base taken bytes) taken_now left_now (Ok (Some work)))
+    served.is_left stepped in
+    let goes_on = session_next desc base served.turns taken served.rest served.items served.dues
+    whole (Does work step.due taken_now step.rest) step.does served.goes_on in
+    IsRun-unreplied desc (session_from desc base served.turns taken_now step.rest).items whole
+    served.items work got_before got_now got_next left_now ended
+    (sym (ap (λ (session : Session). session.items) goes_on))
+    served.replied
+    (subst (λ (line : ℕ). IsReplied {T = Unit {0}} got_now got_next
+    (reply desc line (serial desc [] served.items) work) (Err ended))
+    served.counted
+    (subst (λ (journal : List Entry). IsReplied {T = Unit {0}} got_now got_next
+    (reply desc line journal work) (Err ended))
+    served.journaled cut))
