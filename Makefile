@@ -15,5 +15,6 @@ program:
 	cd crates/depot_cli && rt run -- . trial < stdin
 
 # What loading costs, against the bars of docs/PERFORMANCE.md. It wants Python 3 and valgrind.
+# (How drains grow, which has no bar, is told by bench/draining.py.)
 bench:
 	python3 bench/loading.py
