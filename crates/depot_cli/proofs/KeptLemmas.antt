@@ -17,7 +17,8 @@ use Rattle.table_desc.specs.Deliveries.{DeliveryOf}
 use Rattle.table_desc.specs.Descriptions.{DescOf}
 use Rattle.view_meaning.specs.declared.journal.Entry.{Entry}
 use Rattle.view_meaning.specs.declared.journal.Entry.TheVariants as entry
-use Rattle.view_meaning.specs.Partitions.{HasEarlierSources, sources_of}
+use Rattle.table_desc.specs.Sources.{HasEarlierSources}
+use Rattle.view_meaning.specs.Partitions.{sources_of}
 use Rattle.view_meaning.specs.Journal.{accepted, is_repeat}
 use Rattle.view_meaning.specs.Values.{value}
 use Rattle.view_meaning.specs.Versions.{install_places, installs, last_place, place_of}

@@ -5,7 +5,7 @@ use Rattle.std.specs.Io.BufRead.{first_line}
 use Rattle.std.proofs.lemmas.Bool.{ltb-false}
 use Rattle.depot_io.specs.Lines.{LIMIT, Takes, line_take, span}
 use Rattle.depot_cli.specs.declared.status.InputEnd.TheVariants as why
-use Rattle.depot_cli.specs.Words.{is_empty}
+use Rattle.table_desc.specs.Words.{is_empty}
 use Rattle.table_desc.specs.Descriptions.{DescOf}
 use Rattle.depot_cli.specs.declared.order.Head.{Head}
 use Rattle.depot_cli.specs.declared.order.Order.{Order}

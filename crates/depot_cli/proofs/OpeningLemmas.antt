@@ -6,8 +6,8 @@ use Rattle.std.proofs.lemmas.List.Sums.{fold-append}
 use Rattle.depot_io.specs.Lines.{line_take}
 use Rattle.std.specs.Prelude.{is_some, if◌then◌else◌, ◌||◌}
 use Rattle.table_desc.specs.Descriptions.{DescOf}
-use Rattle.depot_cli.specs.Words.{words, is_skipped}
-use Rattle.depot_cli.specs.Description.{Described, described, with_line, with_declared, declared_by, nothing_described, is_go}
+use Rattle.table_desc.specs.Words.{words, is_skipped}
+use Rattle.table_desc.specs.Grammar.{Described, described, with_line, with_declared, declared_by, nothing_described, is_go}
 use Rattle.depot_cli.specs.declared.script.ScriptFault.{ScriptFault}
 use Rattle.depot_cli.specs.declared.script.ScriptFault.TheVariants.{Input, ReadFault, Memory}
 use Rattle.depot_cli.specs.Reading.{NextLine, NoLine, Unreadable, Line, line_due, next_line, Opening, OpeningEnd, Go, Broken, opening, opening_at, opening_from, after_line}

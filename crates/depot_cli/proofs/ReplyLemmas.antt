@@ -12,7 +12,8 @@ use Rattle.table_desc.specs.Tables.{TableOf}
 use Rattle.view_meaning.specs.declared.journal.Entry.{Entry}
 use Rattle.view_meaning.specs.declared.journal.Entry.TheVariants as entry
 use Rattle.view_meaning.specs.declared.request.Item.{Item}
-use Rattle.view_meaning.specs.Partitions.{is_met, parts_met, width_of}
+use Rattle.table_desc.specs.Sources.{width_of}
+use Rattle.view_meaning.specs.Partitions.{is_met, parts_met}
 use Rattle.view_meaning.specs.Journal.{accepted, is_repeat}
 use Rattle.view_meaning.specs.Shown.{ShownPart, shown, shown_part}
 use Rattle.view_meaning.specs.Values.{value}

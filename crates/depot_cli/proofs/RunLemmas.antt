@@ -7,7 +7,7 @@ use Rattle.depot_cli.specs.declared.script.ScriptFault.TheVariants.{Input, ReadF
 use Rattle.depot_cli.specs.declared.status.Status.{Status}
 use Rattle.depot_cli.specs.declared.status.Status.TheVariants as status
 use Rattle.table_desc.specs.Descriptions.{DescOf}
-use Rattle.depot_cli.specs.Description.{Described, described}
+use Rattle.table_desc.specs.Grammar.{Described, described}
 use Rattle.depot_cli.specs.Reading.{OpeningEnd, Go, Broken, Script, Unopened, Misdescribed, Served, opening, reading, script_at, script_behind, session}
 use Rattle.depot_cli.specs.ScriptCalls.{IsBeforeGo, IsLeftOf, IsOpening, status_of_fault}
 use Rattle.depot_cli.specs.Runs.{GainsFrontOf, GainsTakenOf, HasCompleteRuns, IsRun}

@@ -1,7 +1,4 @@
-pub mod Words
-pub mod Description
 pub mod Orders
-pub mod Bodies
 pub mod Reading
 pub mod ScriptCalls
 pub mod SerialJournal

@@ -6,12 +6,14 @@ use Rattle.depot_cell.specs.Numbers.{number_of}
 use Rattle.table_desc.specs.Descriptions.{DescOf}
 use Rattle.view_meaning.specs.declared.request.Item.{Item}
 use Rattle.view_meaning.specs.declared.request.Mark.TheVariants as mark
-use Rattle.view_meaning.specs.Partitions.{END, parts_met, width_of}
+use Rattle.table_desc.specs.Sources.{width_of}
+use Rattle.table_desc.specs.Time.{END}
+use Rattle.view_meaning.specs.Partitions.{parts_met}
 use Rattle.depot_cli.specs.declared.order.Head.{Head}
 use Rattle.depot_cli.specs.declared.order.Order.{Order}
 use Rattle.depot_cli.specs.declared.order.Order.TheVariants as order
-use Rattle.depot_cli.specs.Words.{words, begins_comment, is_empty}
-use Rattle.depot_cli.specs.Description.{feed_named, table_named}
+use Rattle.table_desc.specs.Words.{words, begins_comment, is_empty}
+use Rattle.table_desc.specs.Names.{find_feed, find_table}
 
 -- the most bytes of a body
 abbrev pub BODY_LIMIT : ℕ
@@ -34,7 +36,7 @@ head_of desc feed number closes =
     option_and_then (λ closes. Some (record { feed = feed; number = number }))
     (number_below 1 closes))
     (number_below (2 ^ 32) number))
-    (feed_named desc feed)
+    (find_feed desc feed)
 
 -- a body follows where its size is a number, whatever else is wrong with the line
 abbrev pub sized : Option Head → Option ℕ → Order
@@ -72,7 +74,7 @@ item_read desc table from to =
     option_and_then (λ to. item_of desc table from to)
     (number_below (END + 1) to))
     (number_below (END + 1) from))
-    (table_named desc table)
+    (find_table desc table)
 
 -- what the words behind `query` ask for
 abbrev pub query_order : DescOf → List (List ℕ) → Order

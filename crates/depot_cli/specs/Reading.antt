@@ -11,10 +11,10 @@ use Rattle.depot_cli.specs.declared.work.Work.{Work}
 use Rattle.depot_cli.specs.declared.work.Work.TheVariants as work
 use Rattle.depot_cli.specs.declared.status.InputEnd.{InputEnd}
 use Rattle.depot_cli.specs.declared.status.InputEnd.TheVariants as why
-use Rattle.depot_cli.specs.Words.{words, is_empty}
-use Rattle.depot_cli.specs.Description.{Described, described, is_go}
+use Rattle.table_desc.specs.Words.{words, is_empty}
+use Rattle.table_desc.specs.Grammar.{Described, described, is_go}
 use Rattle.depot_cli.specs.Orders.{order_of}
-use Rattle.depot_cli.specs.Bodies.{rows_of}
+use Rattle.feed_csv.specs.Bodies.{rows_of}
 
 -- what the next line of an input is: there is none, it cannot be read, or it is there, with what
 -- is left behind it

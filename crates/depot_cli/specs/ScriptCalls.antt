@@ -9,8 +9,8 @@ use Rattle.depot_cli.specs.declared.status.Status.{Status}
 use Rattle.depot_cli.specs.declared.status.Status.TheVariants as status
 use Rattle.depot_cli.specs.declared.work.Work.{Work}
 use Rattle.depot_cli.specs.declared.work.Work.TheVariants as work
-use Rattle.view_meaning.specs.Partitions.{END}
-use Rattle.depot_cli.specs.Description.{Described, described}
+use Rattle.table_desc.specs.Time.{END}
+use Rattle.table_desc.specs.Grammar.{Described, described}
 use Rattle.depot_cli.specs.Reading.{NextLine, NoLine, Unreadable, Line, NextBody, Unfinished, Body, Opening, OpeningEnd, Go, Broken, Step, Ends, Does, Ended, Stopped}
 
 -- known bytes are these

@@ -2,7 +2,7 @@
 
 ghost use Rattle.std.specs.Prelude.{◌≡◌, OnOk};
 ghost use Rattle.view_meaning.specs.Drains.{drained};
-ghost use Rattle.depot_cli.specs.Description.{IsServed};
+ghost use Rattle.table_desc.specs.Served.{IsServed};
 ghost use Rattle.depot_cli.specs.KeptJournals.{IsKept};
 
 use crate::journal::Journal;

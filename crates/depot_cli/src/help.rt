@@ -3,7 +3,7 @@
 ghost use Rattle.std.specs.Prelude.{◌≡◌, is_some};
 ghost use Rattle.depot_cli.specs.Runs.{asks_text};
 
-use crate::words::is_word;
+use table_desc::is_word;
 
 const HELP: &[u8] = b"\
 depot_cli: a stream warehouse with cascading views

@@ -4,23 +4,16 @@
 //! `docs/FORMATS.md`, the rules in `docs/RULES.md`.
 #![tactic(auto)]
 
-mod body;
-mod columns;
-mod description;
 mod drain;
-mod filter;
 mod help;
 mod journal;
 mod laws;
-mod names;
 mod order;
-mod raw_table;
 mod reply;
 mod rows_text;
 mod run;
 mod script;
 mod session;
-mod sieve;
 mod status;
 mod step;
 #[cfg(test)]
@@ -36,7 +29,6 @@ mod tests_views;
 mod texts;
 mod version;
 mod versions;
-mod words;
 mod work;
 
 use crate::help::text_asked;

@@ -2,16 +2,16 @@
 
 ghost use Rattle.std.specs.Prelude.{◌≡◌, ◌<◌, ◌≤◌, ◌&&◌, length, map, slice_get, IfOk, IfSome};
 ghost use Rattle.std.specs.Str.{bytes_eq};
-ghost use Rattle.view_meaning.specs.Partitions.{parts_met, width_of, END as the_end};
-ghost use Rattle.depot_cli.specs.Words.{is_empty};
-ghost use Rattle.depot_cli.specs.Description.{IsServed};
+ghost use Rattle.table_desc.specs.Sources.{width_of};
+ghost use Rattle.table_desc.specs.Time.{END as the_end};
+ghost use Rattle.view_meaning.specs.Partitions.{parts_met};
+ghost use Rattle.table_desc.specs.Words.{is_empty};
+ghost use Rattle.table_desc.specs.Served.{IsServed};
 ghost use Rattle.depot_cli.specs.Orders.{deliver_order, asked, head_of, item_of, item_read, number_below, order_of, order_of_words, query_order, sized};
 
-use crate::names::{feed_named, table_named};
-use crate::words::{begins_comment, is_word, words_of};
 use depot_cell::{Memory, read_number};
 use std::alloc::Global;
-use table_desc::{Desc, END, Width};
+use table_desc::{Desc, END, Width, begins_comment, find_feed, find_table, is_word, words_of};
 use view_meaning::{Item, Mark, plain_parts};
 
 /// The most bytes of a body.
@@ -116,7 +116,7 @@ fn head_of(desc: &Desc, feed: &[u8], number: &[u8], closes: &[u8]) -> Option<Hea
     requires served { IsServed desc.now }
     ensures exact { result ≡ head_of desc.now feed.now number.now closes.now }
 {
-    let feed = feed_named(desc, feed)?;
+    let feed = find_feed(desc, feed)?;
     let number = number_below(1 << 32, number)? as u32;
     number_below(1, closes)?;
     Some(Head { feed, number })
@@ -145,7 +145,7 @@ fn item_read(desc: &Desc, table: &[u8], from: &[u8], to: &[u8]) -> Option<Item>
     requires served { IsServed desc.now }
     ensures exact { result ≡ item_read desc.now table.now from.now to.now }
 {
-    let table = table_named(desc, table)?;
+    let table = find_table(desc, table)?;
     let from = number_below(END + 1, from)?;
     let to = number_below(END + 1, to)?;
     item_of(desc, table, from, to)

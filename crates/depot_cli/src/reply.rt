@@ -1,7 +1,7 @@
 //! What is done for each item of a script, and what is written in reply.
 
 ghost use Rattle.std.specs.Prelude.{◌≡◌, ◌+◌, ◌<◌, ◌≤◌, ◌^◌, ◌++◌, true, false, length, map, flat_map, IfOk, OnOk, slice_get, option_copied, Some};
-ghost use Rattle.view_meaning.specs.Partitions.{END};
+ghost use Rattle.table_desc.specs.Time.{END};
 ghost use Rattle.view_meaning.specs.Shown.{shown, shown_part};
 ghost use Rattle.view_meaning.specs.Versions.{is_raw_kind};
 ghost use Rattle.view_meaning.specs.Drains.{drained};
@@ -9,7 +9,7 @@ ghost use Rattle.std.specs.List.{range_with_len};
 ghost use Rattle.table_desc.specs.Kinds.{kind_of};
 ghost use Rattle.depot_cli.specs.declared.work.Work.TheVariants as work;
 ghost use Rattle.depot_cli.specs.ScriptCalls.{IsAnswerable};
-ghost use Rattle.depot_cli.specs.Description.{IsServed};
+ghost use Rattle.table_desc.specs.Served.{IsServed};
 ghost use Rattle.depot_cli.specs.KeptJournals.{IsKept};
 ghost use Rattle.depot_cli.specs.SerialJournal.{journal_after};
 ghost use Rattle.depot_cli.specs.Texts.{answer_text, drained_text, feed_name, shown_text, table_name};

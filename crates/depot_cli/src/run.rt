@@ -4,18 +4,17 @@ ghost use Rattle.std.specs.Prelude.{◌≡◌, ◌↔◌, ◌≤◌, IfSome, IfO
 ghost use Rattle.std.specs.Io.KnownBytes.{Keeps};
 ghost use Rattle.depot_io.specs.Causes.{Rose};
 ghost use Rattle.depot_io.specs.Lines.{LIMIT};
-ghost use Rattle.depot_cli.specs.Description.{IsServed};
+ghost use Rattle.table_desc.specs.Served.{IsServed};
 ghost use Rattle.depot_cli.specs.Reading.{Served, opening, reading, session};
 ghost use Rattle.depot_cli.specs.ScriptCalls.{IsOpened, IsScriptCause};
 ghost use Rattle.depot_cli.specs.Runs.{EndsSession, HasRunCauses, IsRun, is_trial};
 
-use crate::description::Draft;
 use crate::script::{ScriptFault, read_opening};
 use crate::session::{serve, status_of};
 use crate::status::{DescCause, Status};
 use depot_io::{LineReader, Sink, Source};
 use std::alloc::Global;
-use table_desc::Desc;
+use table_desc::{Desc, Draft};
 
 /// Runs a command: `words` are those behind the folder. The one command is `trial`. It reads a
 /// description up to its `go` line and then session lines off the source, and puts the replies

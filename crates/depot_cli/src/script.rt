@@ -2,22 +2,21 @@
 
 ghost use Rattle.std.specs.Prelude.{◌≡◌, ◌+◌, ◌≤◌, ◌<◌, length, IfSome, IfOk, OnOk, OnSome, Ok, true};
 ghost use Rattle.depot_io.specs.Lines.{LIMIT, line_take};
-ghost use Rattle.depot_cli.specs.Words.{words};
-ghost use Rattle.depot_cli.specs.Description.{IsServed, is_go};
+ghost use Rattle.table_desc.specs.Words.{words};
+ghost use Rattle.table_desc.specs.Served.{IsServed};
+ghost use Rattle.table_desc.specs.Grammar.{is_go};
 ghost use Rattle.depot_cli.specs.Orders.{BODY_LIMIT};
 ghost use Rattle.depot_cli.specs.Reading.{line_due, next_line, next_body, body_work as work_of_body, step_of, opening};
 ghost use Rattle.depot_cli.specs.ScriptCalls.{IsAnswerable, IsNextLine, IsNextBody, IsOpening, IsStep, IsScriptCause};
 
-use crate::body::read_rows;
-use crate::description::Draft;
 use crate::order::{Head, Order, read_order};
 use crate::status::InputEnd;
-use crate::words::{is_go, words_of};
 use crate::work::Work;
 use depot_cell::Memory;
 use depot_io::{Line, LineFault, LineReader, Source};
+use feed_csv::read_rows;
 use std::alloc::Global;
-use table_desc::{Delivery, Desc};
+use table_desc::{Delivery, Desc, Draft, is_go, words_of};
 
 /// Why a script was not read on.
 #[derive(Clone, Copy, Debug, PartialEq, Eq, Drop)]

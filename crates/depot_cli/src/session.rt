@@ -3,7 +3,7 @@
 ghost use Rattle.std.specs.Prelude.{◌≡◌, ◌≤◌, [], IfSome, OnOk, if◌then◌else◌};
 ghost use Rattle.depot_io.specs.Causes.{Rose};
 ghost use Rattle.depot_io.specs.Lines.{LIMIT};
-ghost use Rattle.depot_cli.specs.Description.{IsServed};
+ghost use Rattle.table_desc.specs.Served.{IsServed};
 ghost use Rattle.depot_cli.specs.Reading.{Served, session};
 ghost use Rattle.depot_cli.specs.ScriptCalls.{IsAnswerable, IsReplied, IsReplyCause, status_of_fault};
 ghost use Rattle.depot_cli.specs.SerialJournal.{journal_after};

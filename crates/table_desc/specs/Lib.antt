@@ -4,3 +4,13 @@ pub mod Kinds
 pub mod Tables
 pub mod Descriptions
 pub mod Deliveries
+pub mod Sources
+pub mod Served
+pub mod Words
+pub mod Front
+pub mod Names
+pub mod Columns
+pub mod RawTables
+pub mod Selections
+pub mod Filters
+pub mod Grammar

@@ -1,4 +1,4 @@
-//! What a description declares, and what a delivery brings: the types alone.
+//! What a description declares, what a delivery brings, and the reading of descriptions.
 //!
 //! A description lists feeds and tables. A table is raw, filled by the deliveries of one feed, or
 //! a view over tables that were declared before it. Feeds, tables and columns go by their
@@ -7,11 +7,19 @@
 #![tactic(auto)]
 
 mod delivery;
+mod grammar;
 mod table;
 mod time;
 mod view;
 
 pub use delivery::{DRow, Delivery};
+pub use grammar::{
+    Draft, begins_comment, field_cell, find_feed, find_table, is_go, is_name, is_skipped, is_word,
+    words_of,
+};
 pub use table::{Column, Desc, Feed, Key, Table};
 pub use time::{END, Span, Width};
 pub use view::{Agg, Cond, Fun, Kind, Pair, Src};
+
+#[cfg(test)]
+mod tests;

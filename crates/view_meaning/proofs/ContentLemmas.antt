@@ -17,7 +17,8 @@ use Rattle.table_desc.specs.Descriptions.{DescOf}
 use Rattle.table_desc.specs.Tables.{TableOf}
 use Rattle.table_desc.specs.KindValues.{KindOf, Raw, Filter, Group, Join}
 use Rattle.view_meaning.specs.declared.journal.Entry.{Entry}
-use Rattle.view_meaning.specs.Partitions.{keys_read, kind_sources, sources_of, keys_below}
+use Rattle.table_desc.specs.Sources.{kind_sources}
+use Rattle.view_meaning.specs.Partitions.{keys_read, sources_of, keys_below}
 use Rattle.view_meaning.specs.Journal.{accepted}
 use Rattle.view_meaning.specs.RawValues.{lies_in, raw_value}
 use Rattle.view_meaning.specs.TableRows.{cells_where}

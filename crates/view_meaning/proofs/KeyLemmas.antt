@@ -16,7 +16,9 @@ use Rattle.table_desc.specs.declared.view.Src.{Src}
 use Rattle.table_desc.specs.Descriptions.{DescOf}
 use Rattle.table_desc.specs.Tables.{TableOf}
 use Rattle.table_desc.specs.KindValues.{KindOf, Raw, Filter, Group, Join}
-use Rattle.view_meaning.specs.Partitions.{END, start_of, end_of, is_met, parts_met, all_parts, is_part, tick_at_least, width_of, table_width, kind_sources, keys_read, keys_below, sources_of}
+use Rattle.table_desc.specs.Sources.{width_of, table_width, kind_sources}
+use Rattle.table_desc.specs.Time.{END}
+use Rattle.view_meaning.specs.Partitions.{start_of, end_of, is_met, parts_met, all_parts, is_part, tick_at_least, keys_read, keys_below, sources_of}
 use Rattle.view_meaning.specs.Versions.{is_raw, is_raw_kind}
 use Rattle.view_meaning.specs.Drains.{view_keys, all_view_keys}
 use Rattle.view_meaning.proofs.AmongLemmas.{is_key, is_among, IsBefore}

@@ -13,7 +13,9 @@ use Rattle.table_desc.specs.declared.time.Span.{Span}
 use Rattle.table_desc.specs.declared.view.Src.{Src}
 use Rattle.table_desc.specs.Deliveries.{DeliveryOf}
 use Rattle.table_desc.specs.Descriptions.{DescOf}
-use Rattle.view_meaning.specs.Partitions.{END, start_of, end_of, is_met, parts_met, source_parts, table_width, keys_read, IsAligned}
+use Rattle.table_desc.specs.Sources.{table_width, IsAligned}
+use Rattle.table_desc.specs.Time.{END}
+use Rattle.view_meaning.specs.Partitions.{start_of, end_of, is_met, parts_met, source_parts, keys_read}
 use Rattle.view_meaning.specs.Reached.{brings}
 use Rattle.view_meaning.specs.PartLists.{AreBrought, AreInTime, Gains, has, is_listed, key_of, lists_of, parts_at}
 use Rattle.view_meaning.proofs.BoolLemmas.{same-answer}

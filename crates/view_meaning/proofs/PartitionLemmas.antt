@@ -6,7 +6,8 @@ use Rattle.std.proofs.Math.Nat.{add-mul, one-mul, mul_assoc, lt_of_mul-lt-mul_ri
 use Rattle.std.proofs.lemmas.Bool.{lt-ltb, le-ltb, ltb-true, eq-eqb, eqb-true}
 use Rattle.std.proofs.lemmas.Nat.{div-add-mod', le-div}
 use Rattle.table_desc.specs.Time.{IsWidth}
-use Rattle.view_meaning.specs.Partitions.{END, start_of, end_of, is_met, parts_met}
+use Rattle.table_desc.specs.Time.{END}
+use Rattle.view_meaning.specs.Partitions.{start_of, end_of, is_met, parts_met}
 use Rattle.view_meaning.proofs.BoolLemmas.{same-answer}
 use Rattle.view_meaning.proofs.FilterLemmas.{filter-none, filter-range_with_len}
 

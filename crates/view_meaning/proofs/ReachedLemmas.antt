@@ -10,7 +10,9 @@ use Rattle.table_desc.specs.declared.delivery.DRow.{DRow}
 use Rattle.table_desc.specs.Deliveries.{DeliveryOf}
 use Rattle.table_desc.specs.Descriptions.{DescOf}
 use Rattle.table_desc.specs.Tables.{TableOf}
-use Rattle.view_meaning.specs.Partitions.{END, HasAlignedSources, HasEarlierSources, end_of, is_covered, is_met, is_part, keys_below, keys_read, kind_sources, sources_of, start_of, table_width, width_of, IsAligned}
+use Rattle.table_desc.specs.Sources.{HasAlignedSources, HasEarlierSources, kind_sources, table_width, width_of, IsAligned}
+use Rattle.table_desc.specs.Time.{END}
+use Rattle.view_meaning.specs.Partitions.{end_of, is_covered, is_met, is_part, keys_below, keys_read, sources_of, start_of}
 use Rattle.view_meaning.specs.Journal.{row_tick}
 use Rattle.view_meaning.specs.RawValues.{covers_tick, holds_cells, lies_in}
 use Rattle.view_meaning.specs.Reached.{brings, is_reached, is_reached_within}

@@ -14,7 +14,9 @@ use Rattle.table_desc.specs.declared.table.Key.{Key}
 use Rattle.table_desc.specs.Deliveries.{DeliveryOf}
 use Rattle.table_desc.specs.Descriptions.{DescOf}
 use Rattle.table_desc.specs.Tables.{TableOf}
-use Rattle.view_meaning.specs.Partitions.{END, HasAlignedSources, HasEarlierSources, all_parts, end_of, is_met, keys_below, sources_of, start_of, table_width, width_of}
+use Rattle.table_desc.specs.Sources.{HasAlignedSources, HasEarlierSources, table_width, width_of}
+use Rattle.table_desc.specs.Time.{END}
+use Rattle.view_meaning.specs.Partitions.{all_parts, end_of, is_met, keys_below, sources_of, start_of}
 use Rattle.view_meaning.specs.Versions.{is_raw_kind}
 use Rattle.view_meaning.specs.Drains.{view_keys}
 use Rattle.view_meaning.specs.Reached.{brings, is_reached, reached}

@@ -8,7 +8,8 @@ use Rattle.std.proofs.lemmas.List.Sums.{AllPass-from_list_all, list_all-from_All
 use Rattle.table_desc.specs.declared.table.Key.{Key}
 use Rattle.table_desc.specs.Descriptions.{DescOf}
 use Rattle.view_meaning.specs.declared.journal.Entry.{Entry}
-use Rattle.view_meaning.specs.Partitions.{HasEarlierSources, sources_of}
+use Rattle.table_desc.specs.Sources.{HasEarlierSources}
+use Rattle.view_meaning.specs.Partitions.{sources_of}
 use Rattle.view_meaning.specs.Versions.{current, recorded}
 use Rattle.view_meaning.specs.Staleness.{is_stale, is_settled, is_settled_within}
 use Rattle.view_meaning.proofs.SourceLemmas.{list_all-agree, All-follow, sources_of-earlier, within-enough}

@@ -11,7 +11,8 @@ use Rattle.table_desc.specs.Deliveries.{DeliveryOf}
 use Rattle.table_desc.specs.Descriptions.{DescOf}
 use Rattle.table_desc.specs.Tables.{TableOf}
 use Rattle.view_meaning.specs.declared.journal.Entry.{Entry}
-use Rattle.view_meaning.specs.Partitions.{HasEarlierSources, sources_of}
+use Rattle.table_desc.specs.Sources.{HasEarlierSources}
+use Rattle.view_meaning.specs.Partitions.{sources_of}
 use Rattle.view_meaning.specs.Journal.{accepted}
 use Rattle.view_meaning.specs.Versions.{is_raw, last_place, version}
 use Rattle.view_meaning.specs.Values.{value_over, value_within, value}

@@ -11,7 +11,8 @@ use Rattle.table_desc.specs.declared.table.Key.{Key}
 use Rattle.table_desc.specs.declared.view.Src.{Src}
 use Rattle.table_desc.specs.Descriptions.{DescOf}
 use Rattle.table_desc.specs.Tables.{TableOf}
-use Rattle.view_meaning.specs.Partitions.{HasEarlierSources, keys_below, keys_read, kind_sources, sources_of, source_parts, table_width}
+use Rattle.table_desc.specs.Sources.{HasEarlierSources, kind_sources, table_width}
+use Rattle.view_meaning.specs.Partitions.{keys_below, keys_read, sources_of, source_parts}
 
 -- two functions that agree on each element of a list map it alike
 pub map-agree : {X Y : Type 0} (f g : X → Y) (xs : List X) → All (λ x. f x ≡ g x) xs

@@ -15,7 +15,8 @@ use Rattle.table_desc.specs.Tables.{TableOf}
 use Rattle.table_desc.specs.KindValues.{KindOf, Raw, Filter, Group, Join}
 use Rattle.view_meaning.specs.declared.journal.Entry.{Entry}
 use Rattle.view_meaning.specs.declared.journal.Entry.TheVariants as entry
-use Rattle.view_meaning.specs.Partitions.{HasEarlierSources, is_part, sources_of}
+use Rattle.table_desc.specs.Sources.{HasEarlierSources}
+use Rattle.view_meaning.specs.Partitions.{is_part, sources_of}
 use Rattle.view_meaning.specs.Journal.{accepted, row_tick}
 use Rattle.view_meaning.specs.RawValues.{covers_tick, holds_cells, lies_in}
 use Rattle.view_meaning.specs.Versions.{install_places, is_raw, is_raw_kind, raw_version, version, current, recorded}

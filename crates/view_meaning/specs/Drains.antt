@@ -6,7 +6,8 @@ use Rattle.table_desc.specs.Descriptions.{DescOf}
 use Rattle.table_desc.specs.Tables.{TableOf}
 use Rattle.view_meaning.specs.declared.journal.Entry.{Entry}
 use Rattle.view_meaning.specs.declared.journal.Entry.TheVariants as entry
-use Rattle.view_meaning.specs.Partitions.{HasEarlierSources, all_parts, is_part}
+use Rattle.table_desc.specs.Sources.{HasEarlierSources}
+use Rattle.view_meaning.specs.Partitions.{all_parts, is_part}
 use Rattle.view_meaning.specs.Versions.{is_raw_kind}
 use Rattle.view_meaning.specs.Staleness.{is_settled}
 use Rattle.view_meaning.specs.LegalJournals.{IsLegal}

@@ -1,17 +1,14 @@
 -- Partitions of time: which ticks one covers, which partitions meet a span of ticks, and which
 -- are the sources of a view's partition. All of it is said by ticks; nothing here divides.
-use Rattle.std.specs.Prelude.{ℕ, ℤ, pos, negsuc, ◌+◌, ◌*◌, ◌<◌, ◌≡◌, ◌%◌, ◌+ℤ◌, min, max, Bool, nat_lt, nat_le, ◌&&◌, List, [], ◌∷◌, Option, Some, None, slice_get, map, flat_map, All}
+use Rattle.std.specs.Prelude.{ℕ, ℤ, pos, negsuc, ◌+◌, ◌*◌, ◌+ℤ◌, min, max, Bool, nat_lt, nat_le, ◌&&◌, List, [], Option, Some, None, slice_get, map, flat_map}
 use Rattle.std.specs.List.{filter, range_with_len}
 use Rattle.table_desc.specs.declared.table.Key.{Key}
 use Rattle.table_desc.specs.declared.time.Span.{Span}
 use Rattle.table_desc.specs.declared.view.Src.{Src}
 use Rattle.table_desc.specs.Descriptions.{DescOf}
 use Rattle.table_desc.specs.Tables.{TableOf}
-use Rattle.table_desc.specs.KindValues.{KindOf, Raw, Filter, Group, Join}
-
--- the tick behind the last one
-abbrev pub END : ℕ
-END = 1099511627776
+use Rattle.table_desc.specs.Time.{END}
+use Rattle.table_desc.specs.Sources.{table_width, kind_sources}
 
 -- the first tick of a partition
 abbrev pub start_of : ℕ → ℕ → ℕ
@@ -48,25 +45,9 @@ source_parts width source_width span part = parts_met source_width
 unfoldable pub all_parts : ℕ → List ℕ
 all_parts width = parts_met width 0 END
 
--- the width of a table, and 0 where there is none
-abbrev pub width_of : Option TableOf → ℕ
-width_of None = 0
-width_of (Some table) = table.width
-
--- the width of the table with this number
-abbrev pub table_width : DescOf → ℕ → ℕ
-table_width desc table = width_of (slice_get desc.tables table)
-
 -- whether a key names a partition of its table: one that shares a tick with time
 abbrev pub is_part : DescOf → Key → Bool
 is_part desc key = is_met (table_width desc key.table) 0 END key.part
-
--- the sources that a table names, in order
-abbrev pub kind_sources : KindOf → List Src
-kind_sources (Raw _ _) = []
-kind_sources (Filter src _ _) = src ∷ []
-kind_sources (Group src _ _) = src ∷ []
-kind_sources (Join left right _) = left ∷ right ∷ []
 
 -- the partitions of one source that a view's partition reads, by number
 abbrev pub keys_read : DescOf → (width part : ℕ) → Src → List Key
@@ -82,20 +63,3 @@ keys_below desc part (Some table) =
 -- the source partitions of a partition: a raw one has none
 abbrev pub sources_of : DescOf → Key → List Key
 sources_of desc key = keys_below desc key.part (slice_get desc.tables key.table)
-
--- each source of a view is an earlier table
-abbrev pub HasEarlierSources : DescOf → Type 0
-HasEarlierSources desc = (number : ℕ) (table : TableOf) → slice_get desc.tables number ≡ Some table
-    → All (λ (src : Src). src.table < number) (kind_sources table.kind)
-
--- a source is read over just the ticks of the view's partition, and no partition of it is cut
-pub record IsAligned (width source_width : ℕ) (span : Span) : Type 0 where
-  pub lo : span.lo ≡ pos 0
-  pub hi : span.hi ≡ pos 0
-  pub whole : width % source_width ≡ 0
-
--- so is each source of each view
-abbrev pub HasAlignedSources : DescOf → Type 0
-HasAlignedSources desc = (number : ℕ) (table : TableOf) → slice_get desc.tables number ≡ Some table
-    → All (λ (src : Src). IsAligned table.width (table_width desc src.table) src.span)
-    (kind_sources table.kind)

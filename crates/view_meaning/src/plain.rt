@@ -4,7 +4,9 @@ ghost use Rattle.std.specs.Prelude.{◌≡◌, ◌+◌, ◌≤◌, ◌++◌, sli
 ghost use Rattle.std.specs.List.{list_any, range_with_len};
 ghost use Rattle.std.specs.Option.{option_copied};
 ghost use Rattle.table_desc.specs.Kinds.{kind_of};
-ghost use Rattle.view_meaning.specs.Partitions.{END, is_covered, source_parts, table_width};
+ghost use Rattle.table_desc.specs.Sources.{table_width};
+ghost use Rattle.table_desc.specs.Time.{END};
+ghost use Rattle.view_meaning.specs.Partitions.{is_covered, source_parts};
 ghost use Rattle.view_meaning.specs.Journal.{tick_of, row_tick};
 ghost use Rattle.view_meaning.specs.RawValues.{raw_value};
 ghost use Rattle.view_meaning.specs.TableRows.{lies_in_table, cells_where};

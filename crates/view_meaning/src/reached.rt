@@ -5,7 +5,9 @@
 ghost use Rattle.std.specs.Prelude.{ℕ, ◌≡◌, ◌<◌, ◌≤◌, ◌++◌, ◌∷◌, ◌||◌, ◌+◌, ◌/◌, List, [], Some, IfOk, OnOk, IsSome, All, length, map, option_to_list, slice_get, slice_set, vec_len};
 ghost use Rattle.std.specs.List.{list_any};
 ghost use Rattle.std.specs.List.Sorted.{IsStrictlyIncreasing};
-ghost use Rattle.view_meaning.specs.Partitions.{END, start_of, table_width, kind_sources, keys_below, keys_read, is_covered, IsAligned, HasAlignedSources, HasEarlierSources};
+ghost use Rattle.table_desc.specs.Sources.{table_width, kind_sources, IsAligned, HasAlignedSources, HasEarlierSources};
+ghost use Rattle.table_desc.specs.Time.{END};
+ghost use Rattle.view_meaning.specs.Partitions.{start_of, keys_below, keys_read, is_covered};
 ghost use Rattle.view_meaning.specs.PartLists.{AllGain, AreBrought, AreInTime, Gains, has, is_listed, key_of, keys_of_view, lists_of, parts_at, takes, takes_any};
 ghost use Rattle.view_meaning.specs.RawValues.{lies_in};
 ghost use Rattle.view_meaning.specs.Reached.{reached};

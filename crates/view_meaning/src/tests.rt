@@ -4,7 +4,7 @@ ghost use Rattle.std.specs.Prelude.{pos, ◌≡◌, ◌≤◌, IfOk, length};
 ghost use Rattle.depot_cell.specs.ShortText.{IsShortText};
 ghost use Rattle.table_desc.specs.Kinds.{kind_of};
 ghost use Rattle.table_desc.specs.Time.{IsWidth};
-ghost use Rattle.view_meaning.specs.Partitions.{HasAlignedSources, HasEarlierSources};
+ghost use Rattle.table_desc.specs.Sources.{HasAlignedSources, HasEarlierSources};
 
 use crate::{Parts, plain_parts, plain_reached, plain_value, plain_version};
 use depot_cell::{Cell, Op, Row, Str, Ty, read_cell};

@@ -1,8 +1,8 @@
 -- Each line is read by what the lemmas on openings say of it.
 use Rattle.std.proofs.Common.{◌≡◌, ◌+◌, List, ℕ, false, arith, sym, ◌∙◌, ap, refl}
 use Rattle.std.proofs.lemmas.Option.{IfSome_then}
-use Rattle.depot_cli.specs.Words.{words}
-use Rattle.depot_cli.specs.Description.{Described, is_go, with_line}
+use Rattle.table_desc.specs.Words.{words}
+use Rattle.table_desc.specs.Grammar.{Described, is_go, with_line}
 use Rattle.depot_cli.specs.Reading.{opening}
 use Rattle.depot_cli.proofs.KnownLemmas.{Err-passed}
 use Rattle.depot_cli.proofs.OpeningLemmas.{HasOpened-fault, HasOpened-init, HasOpened-line, lines-with_line}

@@ -1,8 +1,0 @@
-use Rattle.std.proofs.Common.{map, sym}
-use Rattle.depot_cli.proofs.ServedLemmas.{table_said-next}
-use Rattle.depot_cli.proofs.description.declare_table.Goals as goal
-
-pub push_table-requires-clause-next : goal.push_table-requires-clause-next
-push_table-requires-clause-next c = table_said-next c.args.desc.now c.args.keyword.now
-    c.args.name.now (map (λ word. word.now) c.args.words.now) c.in-Some.table
-    (sym (rw c.in-Some.is at c.in_ok-table.ensures.exact))

@@ -1,0 +1,2 @@
+pub mod CsvRecords
+pub mod BodyLemmas

@@ -1,0 +1,47 @@
+use Rattle.std.proofs.Common.{◌≡◌, ◌∙◌, ◌++◌, ◌∷◌, [], Some, ap, arith}
+use Rattle.std.proofs.lemmas.Grind.{common_steps}
+use Rattle.csv.specs.Records.{fields_of}
+use Rattle.feed_csv.proofs.CsvRecords.{Yields-start}
+use Rattle.feed_csv.proofs.BodyLemmas.{ReadsRows-bad, ReadsRows-end, ReadsRows-more, ReadsRows-start}
+use Rattle.feed_csv.proofs.body.read_records.Goals as goal
+
+pub loop-number-init : goal.loop-number-init
+loop-number-init c =
+    let start = c.requires.start in
+    rw c.new-rows.ensures.items (ReadsRows-start _ _ _ _ _
+    (Yields-start _ c.args.reader _ start.plain start.ready start.config start.state start.source))
+
+pub returns-in-Ok-false : goal.returns-in-Ok-false
+returns-in-Ok-false c =
+    let before = c.loop-number.invariant in
+    let read = rw c.in-Ok-false.field-0-test
+    at (c.in-Ok-false.ensures.reads before.yields.plain before.yields.ready) in
+    record {
+      exact = ap Some c.shrink_to_fit.ensures.items
+          ∙ ReadsRows-end _ _ _ _ c.loop-number.reader c.read_byte_record.new.self _ _
+          (fields_of c.read_byte_record.new.row) before read;
+    }
+
+pub returns-in-None : goal.returns-in-None
+returns-in-None c =
+    let before = c.loop-number.invariant in
+    let read = rw c.in-Ok-true.field-0-test
+    at (c.in-Ok-true.ensures.reads before.yields.plain before.yields.ready) in
+    record {
+      exact = ReadsRows-bad _ _ _ _ c.loop-number.reader c.read_byte_record.new.self _ _
+          (fields_of c.read_byte_record.new.row) before read
+          (c.in-Ok-true.ensures.ready before.yields.plain)
+          (rw c.in-None.is at c.in_ok-row.ensures.exact);
+    }
+
+pub loop-number-preserved : goal.loop-number-preserved
+loop-number-preserved c =
+    let before = c.loop-number.invariant in
+    let read = rw c.in-Ok-true.field-0-test
+    at (c.in-Ok-true.ensures.reads before.yields.plain before.yields.ready) in
+    let pushed : c.push.new.self.items ≡ c.loop-number.rows.items ++ c.in-Some.row ∷ [] =
+    grind (arith, common_steps) in
+    rw pushed (ReadsRows-more _ _ _ _ c.loop-number.reader c.read_byte_record.new.self _ _
+    (fields_of c.read_byte_record.new.row) c.in-Some.row before read
+    (c.in-Ok-true.ensures.ready before.yields.plain)
+    (rw c.in-Some.is at c.in_ok-row.ensures.exact))

@@ -1,0 +1,174 @@
+//! The rows of a delivery's body.
+//!
+//! A body is CSV text without a header. The first field of a record names a raw table of the
+//! delivery's feed, the others are the row's cells. Records are numbered from 1.
+
+ghost use Rattle.std.specs.Prelude.{◌≡◌, ◌≤◌, IfOk, Some, drop, length, option_map, slice_get};
+ghost use Rattle.csv.specs.Reading.{reader_source};
+ghost use Rattle.csv.specs.Records.{fields_of};
+ghost use Rattle.depot_cell.specs.declared.cell.Cell.TheVariants.{Int};
+ghost use Rattle.table_desc.specs.Kinds.{kind_of};
+ghost use Rattle.view_meaning.specs.Journal.{row_tick, tick_of};
+ghost use Rattle.feed_csv.specs.Bodies.{BeginsBody, cells_of, is_in_time, is_raw_of, find_raw_table, row_of, rows_of, table_cells};
+
+use csv::{ByteRecord, Reader, ReaderBuilder};
+use depot_cell::{Cell, Memory, Row};
+use std::alloc::Global;
+use table_desc::{Column, DRow, Desc, END, Kind, Table, field_cell};
+
+/// The rows of a body of up to 16,777,216 bytes, or `None` where some record is no row. The
+/// vector keeps no spare room.
+pub fn read_rows(
+    alloc: Global,
+    desc: &Desc,
+    feed: u16,
+    body: &[u8],
+) -> Result<Option<Vec<DRow>>, Memory>
+    requires { length body.now ≤ 16_777_216 }
+    ensures exact { IfOk result (λ rows.
+        option_map (λ rows. rows.items) rows ≡ rows_of desc.now feed body.now) }
+{
+    // The reader is moved into the function with the loop. Made beside the loop, its 16 KiB would
+    // be cleared for each body before they are filled.
+    let reader = ReaderBuilder::new()
+        .has_headers(false)
+        .flexible(true)
+        .from_reader(alloc, body);
+    read_records(alloc, desc, feed, reader)
+}
+
+/// The rows of the records of a body, of which the reader has read nothing yet.
+fn read_records(
+    alloc: Global,
+    desc: &Desc,
+    feed: u16,
+    mut reader: Reader<&[u8]>,
+) -> Result<Option<Vec<DRow>>, Memory>
+    requires start { BeginsBody (λ text. Some text.now) (reader_source reader).now reader }
+    requires few { length (reader_source reader).now ≤ 16_777_216 }
+    ensures exact { IfOk result (λ rows. option_map (λ rows. rows.items) rows
+        ≡ rows_of desc.now feed (reader_source reader.entry).now) }
+{
+    let mut fields = ByteRecord::new(alloc);
+    let mut rows = Vec::new(alloc);
+    for number in 1..u32::MAX {
+        match reader.read_byte_record(&mut fields) {
+            Ok(true) => {}
+            Ok(false) => {
+                rows.shrink_to_fit();
+                return Ok(Some(rows));
+            }
+            Err(_) => return Err(Memory),
+        }
+        match read_row(alloc, desc, feed, number, &fields)? {
+            Some(row) => {
+                if rows.push(row).is_err() {
+                    return Err(Memory);
+                }
+            }
+            None => return Ok(None),
+        }
+    }
+    unreachable!()
+}
+
+/// The row that the record with this number is, if it is one. A row has no room for a table's
+/// number from 65,536 on: there the answer is `Memory`.
+fn read_row(
+    alloc: Global,
+    desc: &Desc,
+    feed: u16,
+    number: u32,
+    fields: &ByteRecord,
+) -> Result<Option<DRow>, Memory>
+    ensures exact { IfOk result (λ row. row ≡ row_of desc.now feed number (fields_of fields.now)) }
+{
+    let Some(name) = fields.get(0) else {
+        return Ok(None);
+    };
+    let Some(place) = find_raw_table(desc, feed, name) else {
+        return Ok(None);
+    };
+    let Ok(table) = u16::try_from(place) else {
+        return Err(Memory);
+    };
+    match table_cells(alloc, &desc.tables[place], fields)? {
+        Some(cells) => Ok(Some(DRow {
+            number,
+            table,
+            cells,
+        })),
+        None => Ok(None),
+    }
+}
+
+fn find_raw_table(desc: &Desc, feed: u16, name: &[u8]) -> Option<usize>
+    ensures exact { result ≡ find_raw_table desc.now feed name.now }
+{
+    desc.tables.iter().position(|table| table.name.as_bytes() == name
+        && is_raw_of(feed, &table.kind))
+}
+
+fn is_raw_of(feed: u16, kind: &Kind) -> bool
+    ensures exact { result ≡ is_raw_of feed (kind_of kind.now) }
+{
+    match kind {
+        Kind::Raw { feed: its_feed, .. } => *its_feed == feed,
+        _ => false,
+    }
+}
+
+/// The cells that the fields behind the first are as a row of a table.
+fn table_cells(alloc: Global, table: &Table, fields: &ByteRecord) -> Result<Option<Row>, Memory>
+    requires named { 1 ≤ length (fields_of fields.now) }
+    ensures exact { IfOk result (λ cells.
+        cells ≡ table_cells (Some table.now) (drop 1 (fields_of fields.now))) }
+{
+    match read_cells(alloc, table.columns.as_slice(), fields)? {
+        Some(cells) if is_timed(&table.kind, cells.cells()) => Ok(Some(cells)),
+        _ => Ok(None),
+    }
+}
+
+/// The cells that the fields behind the first are by their columns.
+fn read_cells(alloc: Global, columns: &[Column], fields: &ByteRecord) -> Result<Option<Row>, Memory>
+    requires named { 1 ≤ length (fields_of fields.now) }
+    ensures exact { IfOk result (λ cells.
+        cells ≡ cells_of columns.now (drop 1 (fields_of fields.now))) }
+{
+    if fields.len() != columns.len() + 1 {
+        return Ok(None);
+    }
+    let mut cells = Row::with_capacity(alloc, columns.len())?;
+    for (place, column) in columns.iter().enumerate() {
+        let Some(field) = fields.get(place + 1) else {
+            unreachable!()
+        };
+        let Some(cell) = field_cell(alloc, column.ty, field)? else {
+            return Ok(None);
+        };
+        if cells.push(cell).is_err() {
+            return Err(Memory);
+        }
+    }
+    Ok(Some(cells))
+}
+
+/// Whether the tick of a row lies in time. A view's rows have none.
+fn is_timed(kind: &Kind, cells: &[Cell]) -> bool
+    ensures exact { result ≡ is_in_time (row_tick (kind_of kind.now) cells.now) }
+{
+    match kind {
+        Kind::Raw { time, .. } => match cells.get(usize::from(*time)) {
+            Some(Cell::Int(number)) => is_tick(*number),
+            _ => false,
+        },
+        _ => false,
+    }
+}
+
+fn is_tick(number: i64) -> bool
+    ensures exact { result ≡ is_in_time (tick_of (Some (Int number))) }
+{
+    0 <= number && number < END as i64
+}

@@ -1,0 +1,11 @@
+//! The rows of a delivery's CSV body.
+//!
+//! What a record is, the crate `csv` says. Which records are rows, `specs/Bodies.antt` says, and
+//! `docs/FORMATS.md` tells it in words.
+#![tactic(auto)]
+
+mod body;
+#[cfg(test)]
+mod tests;
+
+pub use body::read_rows;

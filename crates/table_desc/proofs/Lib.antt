@@ -1,0 +1,6 @@
+pub mod FrontLemmas
+pub mod NameLemmas
+pub mod ColumnLemmas
+pub mod SelectionLemmas
+pub mod GrammarLemmas
+pub mod ServedLemmas

@@ -1,0 +1,34 @@
+use Rattle.std.proofs.Common.{ℕ, ◌≤◌, Bor, List, [], length, arith}
+use Rattle.std.proofs.lemmas.List.{take_rest}
+use Rattle.table_desc.proofs.GrammarLemmas.{declared_by-few, declared_by-more}
+use Rattle.table_desc.proofs.grammar.draft.declare.Goals as goal
+
+-- what a goal has as the word at a place where there is none
+abbrev no_word : Bor (List ℕ)
+no_word = record { ref_ptr = (0, 0); now = [] }
+
+pub returns-in_default-clause-told : goal.returns-in_default-clause-told
+returns-in_default-clause-told c =
+    rw (declared_by-few c.args.desc.now c.args.words.now c.in_default.len_below)
+
+pub returns-in_default-clause-ok : goal.returns-in_default-clause-ok
+returns-in_default-clause-ok c =
+    rw (declared_by-few c.args.desc.now c.args.words.now c.in_default.len_below)
+
+pub returns-in-len2-up-clause-told : goal.returns-in-len2-up-clause-told
+returns-in-len2-up-clause-told c =
+    let more : 3 ≤ length c.args.words.now = omega arith in
+    rw (
+      declared_by-more c.args.desc.now c.args.words.now no_word more,
+      ← take_rest c.args.words.now 2,
+    )
+    c.declare_table.ensures.told
+
+pub returns-in-len2-up-clause-ok : goal.returns-in-len2-up-clause-ok
+returns-in-len2-up-clause-ok c =
+    let more : 3 ≤ length c.args.words.now = omega arith in
+    rw (
+      declared_by-more c.args.desc.now c.args.words.now no_word more,
+      ← take_rest c.args.words.now 2,
+    )
+    c.declare_table.ensures.ok

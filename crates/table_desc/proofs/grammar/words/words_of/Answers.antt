@@ -1,0 +1,16 @@
+use Rattle.std.proofs.Common.{ℕ, Ok, not, rules, tests}
+use Rattle.std.proofs.lemmas.Iterator.Consumers.{YieldsList-at, YieldsList-from_filter, map_from_collect}
+use Rattle.std.proofs.lemmas.Iterator.Splits.{YieldsList-from_slice_split}
+use Rattle.table_desc.specs.Words.{is_blank, is_empty}
+use Rattle.table_desc.proofs.grammar.words.words_of.Goals as goal
+
+pub returns-in-Ok : goal.returns-in-Ok
+returns-in-Ok c = record {
+  exact = map_from_collect {E = ℕ} (Ok c.in-Ok.found) c.in-Ok.ensures.ran
+      (YieldsList-from_filter _ (λ word. not (is_empty word))
+      (YieldsList-at c.filter-words.ensures.source
+      (YieldsList-from_slice_split _ is_blank c.args.line.now c.split.ensures.rest
+      c.split.ensures.done
+      c.split.ensures.closure (λ x r q k. search (rules, tests))))
+      c.filter-words.ensures.closure (λ x r q k. search (rules, tests)));
+}

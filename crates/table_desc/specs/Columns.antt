@@ -1,0 +1,71 @@
+-- The columns of a table: those that words declare, and those that a view keeps.
+use Rattle.std.specs.Prelude.{ℕ, ◌+◌, List, [], ◌∷◌, Option, Some, None, Bool, true, false, not, ◌==◌, ◌&&◌, nat_lt, nat_le, if◌then◌else◌, length, take, drop, codes, position, option_and_then, option_map, filter_map, slice_get}
+use Rattle.std.specs.Str.{bytes_eq}
+use Rattle.std.specs.List.{list_any}
+use Rattle.depot_cell.specs.declared.cell.Ty.{Ty}
+use Rattle.table_desc.specs.declared.table.Column.{Column}
+use Rattle.depot_cell.specs.declared.cell.Ty.TheVariants as ty
+use Rattle.table_desc.specs.Names.{is_name}
+use Rattle.table_desc.specs.Front.{with_first}
+
+-- the type that a word names
+abbrev pub ty_named : List ℕ → Option Ty
+ty_named word =
+    if bytes_eq word (codes "int") then Some ty.Int
+    else if bytes_eq word (codes "text") then Some ty.Text else None
+
+-- a column of these parts, where the name is one
+abbrev pub column_from : (name ty : List ℕ) → Option Column
+column_from name ty =
+    if is_name name then option_map (λ ty. record { name = name; ty = ty }) (ty_named ty) else None
+
+-- whether a byte is a colon
+abbrev pub is_colon : ℕ → Bool
+is_colon byte = byte == 58
+
+-- the column that a word `NAME:TYPE` declares; it is cut at its first `:`
+abbrev pub column_of : List ℕ → Option Column
+column_of word = option_and_then
+    (λ colon. column_from (take colon word) (drop (colon + 1) word))
+    (position is_colon word)
+
+-- the columns that words declare
+abbrev pub columns_of : List (List ℕ) → Option (List Column)
+columns_of [] = Some []
+columns_of (word ∷ others) = with_first (column_of word) (columns_of others)
+
+-- whether no two columns have one name
+abbrev pub are_different : List Column → Bool
+are_different [] = true
+are_different (column ∷ others) =
+    not (list_any (λ (other : Column). bytes_eq column.name other.name) others)
+    && are_different others
+
+-- whether columns may be those of a table: 1 to 16, and no two have one name
+abbrev pub are_columns : List Column → Bool
+are_columns columns = nat_lt 0 (length columns) && nat_le (length columns) 16
+    && are_different columns
+
+-- whether a type is that of whole numbers
+abbrev pub is_int : Ty → Bool
+is_int ty.Int = true
+is_int ty.Text = false
+
+-- the time column of a table: the number of the int column with this name
+abbrev pub find_time : List Column → List ℕ → Option ℕ
+find_time columns name = position
+    (λ (column : Column). bytes_eq column.name name && is_int column.ty) columns
+
+-- the number of the column with this name
+abbrev pub find_column : List Column → List ℕ → Option ℕ
+find_column columns name = position (λ (column : Column). bytes_eq column.name name) columns
+
+-- the columns that words name, in the order of the words
+abbrev pub find_columns : List Column → List (List ℕ) → Option (List ℕ)
+find_columns columns [] = Some []
+find_columns columns (word ∷ others) =
+    with_first (find_column columns word) (find_columns columns others)
+
+-- the columns with these numbers
+abbrev pub kept_columns : List Column → (keep : List ℕ) → List Column
+kept_columns columns keep = filter_map (slice_get columns) keep

@@ -1,0 +1,40 @@
+-- What a description says of the sources of its views.
+use Rattle.std.specs.Prelude.{ℕ, pos, ◌<◌, ◌≡◌, ◌%◌, List, [], ◌∷◌, Option, Some, None, slice_get, All}
+use Rattle.table_desc.specs.declared.time.Span.{Span}
+use Rattle.table_desc.specs.declared.view.Src.{Src}
+use Rattle.table_desc.specs.Descriptions.{DescOf}
+use Rattle.table_desc.specs.Tables.{TableOf}
+use Rattle.table_desc.specs.KindValues.{KindOf, Raw, Filter, Group, Join}
+
+-- the width of a table, and 0 where there is none
+abbrev pub width_of : Option TableOf → ℕ
+width_of None = 0
+width_of (Some table) = table.width
+
+-- the width of the table with this number
+abbrev pub table_width : DescOf → ℕ → ℕ
+table_width desc table = width_of (slice_get desc.tables table)
+
+-- the sources that a table names, in order
+abbrev pub kind_sources : KindOf → List Src
+kind_sources (Raw _ _) = []
+kind_sources (Filter src _ _) = src ∷ []
+kind_sources (Group src _ _) = src ∷ []
+kind_sources (Join left right _) = left ∷ right ∷ []
+
+-- each source of a view is an earlier table
+abbrev pub HasEarlierSources : DescOf → Type 0
+HasEarlierSources desc = (number : ℕ) (table : TableOf) → slice_get desc.tables number ≡ Some table
+    → All (λ (src : Src). src.table < number) (kind_sources table.kind)
+
+-- a source is read over just the ticks of the view's partition, and no partition of it is cut
+pub record IsAligned (width source_width : ℕ) (span : Span) : Type 0 where
+  pub lo : span.lo ≡ pos 0
+  pub hi : span.hi ≡ pos 0
+  pub whole : width % source_width ≡ 0
+
+-- so is each source of each view
+abbrev pub HasAlignedSources : DescOf → Type 0
+HasAlignedSources desc = (number : ℕ) (table : TableOf) → slice_get desc.tables number ≡ Some table
+    → All (λ (src : Src). IsAligned table.width (table_width desc src.table) src.span)
+    (kind_sources table.kind)

@@ -1,0 +1,18 @@
+//! The reading of descriptions, line by line.
+//!
+//! Each kind of line has a file of its own. [`Draft`] puts the lines together. The language is
+//! told in `docs/FORMATS.md`.
+
+mod columns;
+mod draft;
+mod field;
+mod filter;
+mod names;
+mod raw_table;
+mod selection;
+mod words;
+
+pub use draft::Draft;
+pub use field::field_cell;
+pub use names::{find_feed, find_table, is_name};
+pub use words::{begins_comment, is_go, is_skipped, is_word, words_of};

@@ -1,0 +1,172 @@
+//! The columns of a table: those that words `NAME:TYPE` declare, and those that a view keeps.
+
+ghost use Rattle.std.specs.Prelude.{◌≡◌, ◌<◌, ◌≤◌, ◌++◌, [], ◌∷◌, length, map, option_map, position, IfOk, IfSome, OnOk};
+ghost use Rattle.std.specs.Str.{bytes_eq};
+ghost use Rattle.std.specs.List.{list_any};
+ghost use Rattle.table_desc.specs.Columns.{are_columns, are_different, column_from, find_column, column_of, columns_of, is_colon, is_int, kept_columns, find_time, ty_named};
+
+use crate::Column;
+use crate::grammar::names::{is_name, name_text};
+use crate::grammar::words::is_word;
+use depot_cell::{Memory, Str, Ty};
+use std::alloc::Global;
+
+/// The most columns of a table.
+const MOST_COLUMNS: usize = 16;
+
+/// The columns that words declare, or none where a word declares no column.
+pub fn columns_of(alloc: Global, words: &[&[u8]]) -> Result<Option<Vec<Column>>, Memory>
+    ensures exact { IfOk result (λ found.
+        option_map (λ columns. columns.items) found
+        ≡ columns_of (map (λ word. word.now) words.now)) }
+{
+    let mut columns = Vec::new(alloc);
+    for word in words {
+        match column_of(alloc, word)? {
+            Some(column) => push_column(&mut columns, column)?,
+            None => return Ok(None),
+        }
+    }
+    Ok(Some(columns))
+}
+
+fn column_of(alloc: Global, word: &[u8]) -> Result<Option<Column>, Memory>
+    ensures exact { IfOk result (λ column. column ≡ column_of word.now) }
+{
+    match colon_in(word) {
+        Some(colon) => column_from(alloc, &word[..colon], &word[colon + 1..]),
+        None => Ok(None),
+    }
+}
+
+fn colon_in(word: &[u8]) -> Option<usize>
+    ensures exact { result ≡ position is_colon word.now }
+    ensures there { IfSome result (λ colon. colon < length word.now) }
+{
+    word.iter().position(|byte| *byte == b':')
+}
+
+fn column_from(alloc: Global, name: &[u8], ty: &[u8]) -> Result<Option<Column>, Memory>
+    ensures exact { IfOk result (λ column. column ≡ column_from name.now ty.now) }
+{
+    if !is_name(name) {
+        return Ok(None);
+    }
+    match ty_named(ty) {
+        Some(ty) => Ok(Some(Column {
+            name: name_text(alloc, name)?,
+            ty,
+        })),
+        None => Ok(None),
+    }
+}
+
+fn ty_named(word: &[u8]) -> Option<Ty>
+    ensures exact { result ≡ ty_named word.now }
+{
+    if is_word(word, b"int") {
+        Some(Ty::Int)
+    } else if is_word(word, b"text") {
+        Some(Ty::Text)
+    } else {
+        None
+    }
+}
+
+/// Whether columns may be those of a table: 1 to 16, and no two have one name.
+pub fn are_columns(columns: &[Column]) -> bool
+    ensures exact { result ≡ are_columns columns.now }
+{
+    !columns.is_empty() && columns.len() <= MOST_COLUMNS && are_different(columns)
+}
+
+fn are_different(columns: &[Column]) -> bool
+    ensures exact { result ≡ are_different columns.now }
+{
+    match columns {
+        [first, others @ ..] => !is_declared(others, first.name.as_bytes())
+            && are_different(others),
+        [] => true,
+    }
+}
+
+fn is_declared(columns: &[Column], name: &[u8]) -> bool
+    ensures exact { result ≡ list_any (λ column. bytes_eq name.now column.name) columns.now }
+{
+    columns
+        .iter()
+        .any(|column| is_word(name, column.name.as_bytes()))
+}
+
+/// The columns with these numbers.
+pub fn kept_columns(
+    alloc: Global,
+    columns: &[Column],
+    numbers: &[u16],
+) -> Result<Vec<Column>, Memory>
+    ensures exact { IfOk result (λ kept. kept.items ≡ kept_columns columns.now numbers.now) }
+{
+    let mut kept = Vec::new(alloc);
+    for number in numbers {
+        if let Some(column) = columns.get(usize::from(*number)) {
+            push_column(&mut kept, copy_column(alloc, column)?)?;
+        }
+    }
+    Ok(kept)
+}
+
+fn push_column(columns: &mut Vec<Column>, column: Column) -> Result<(), Memory>
+    ensures ok { OnOk result (columns.new.items ≡ columns.old.items ++ column ∷ []) }
+{
+    match columns.push(column) {
+        Ok(()) => Ok(()),
+        Err(_) => Err(Memory),
+    }
+}
+
+fn copy_column(alloc: Global, column: &Column) -> Result<Column, Memory>
+    ensures exact { IfOk result (λ copy. copy ≡ column.now) }
+{
+    Ok(Column {
+        name: Str::from_bytes(alloc, column.name.as_bytes())?,
+        ty: column.ty,
+    })
+}
+
+/// The number of the column with this name.
+pub fn find_column(columns: &[Column], name: &[u8]) -> Option<u16>
+    requires few { length columns.now ≤ 16 }
+    ensures exact { result ≡ find_column columns.now name.now }
+    ensures there { IfSome result (λ column. column < length columns.now) }
+{
+    match place_of_column(columns, name) {
+        Some(column) => Some(column as u16),
+        None => None,
+    }
+}
+
+fn place_of_column(columns: &[Column], name: &[u8]) -> Option<usize>
+    ensures exact { result ≡ position (λ column. bytes_eq column.name name.now) columns.now }
+    ensures there { IfSome result (λ column. column < length columns.now) }
+{
+    columns
+        .iter()
+        .position(|column| is_word(column.name.as_bytes(), name))
+}
+
+/// The number of the int column with this name.
+pub fn find_time(columns: &[Column], name: &[u8]) -> Option<usize>
+    ensures exact { result ≡ find_time columns.now name.now }
+    ensures there { IfSome result (λ time. time < length columns.now) }
+{
+    columns.iter().position(|column| is_word(column.name.as_bytes(), name) && is_int(column.ty))
+}
+
+fn is_int(ty: Ty) -> bool
+    ensures exact { result ≡ is_int ty }
+{
+    match ty {
+        Ty::Int => true,
+        Ty::Text => false,
+    }
+}

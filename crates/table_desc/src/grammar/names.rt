@@ -1,0 +1,111 @@
+//! Names: which words are names, and which feed or table a name is of.
+
+ghost use Rattle.std.specs.Prelude.{◌≡◌, ◌<◌, length, position, IfOk, IfSome, IsTrue};
+ghost use Rattle.std.specs.Str.{bytes_eq};
+ghost use Rattle.std.specs.List.{list_all, list_any};
+ghost use Rattle.table_desc.specs.Served.{IsServed};
+ghost use Rattle.table_desc.specs.Names.{begins_name, find_feed, is_letter, is_name, is_name_byte, reserved, find_table};
+
+use crate::grammar::words::is_word;
+use crate::{Desc, Feed, Table};
+use depot_cell::{Memory, Str};
+use std::alloc::Global;
+
+/// The most bytes of a name.
+const MOST_BYTES: usize = 32;
+
+/// Whether a word is a name: 1 to 32 letters, digits and `_`, a letter first. The words `and`,
+/// `agg`, `as`, `by`, `keep`, `on` and `where` are no names.
+pub fn is_name(word: &[u8]) -> bool
+    ensures exact { result ≡ is_name word.now }
+{
+    begins_name(word) && word.len() <= MOST_BYTES && are_name_bytes(word) && !is_reserved(word)
+}
+
+fn begins_name(word: &[u8]) -> bool
+    ensures exact { result ≡ begins_name word.now }
+{
+    match word {
+        [first, ..] => is_letter(*first),
+        [] => false,
+    }
+}
+
+fn are_name_bytes(word: &[u8]) -> bool
+    ensures exact { result ≡ list_all is_name_byte word.now }
+{
+    word.iter().all(|byte| is_name_byte(*byte))
+}
+
+fn is_name_byte(byte: u8) -> bool
+    ensures exact { result ≡ is_name_byte byte }
+{
+    is_letter(byte) || byte.is_ascii_digit() || byte == b'_'
+}
+
+fn is_letter(byte: u8) -> bool
+    ensures exact { result ≡ is_letter byte }
+{
+    byte.is_ascii_alphabetic()
+}
+
+fn is_reserved(word: &[u8]) -> bool
+    ensures exact { result ≡ list_any (bytes_eq word.now) reserved }
+{
+    is_word(word, b"and")
+        || is_word(word, b"agg")
+        || is_word(word, b"as")
+        || is_word(word, b"by")
+        || is_word(word, b"keep")
+        || is_word(word, b"on")
+        || is_word(word, b"where")
+}
+
+/// The text of a name.
+pub fn name_text(alloc: Global, name: &[u8]) -> Result<Str, Memory>
+    requires { IsTrue (is_name name.now) }
+    ensures exact { IfOk result (λ text. text ≡ name.now) }
+{
+    Str::from_bytes(alloc, name)
+}
+
+/// The number of the feed with this name.
+pub fn find_feed(desc: &Desc, name: &[u8]) -> Option<u16>
+    requires served { IsServed desc.now }
+    ensures exact { result ≡ find_feed desc.now name.now }
+{
+    match place_of_feed(&desc.feeds, name) {
+        Some(feed) => Some(feed as u16),
+        None => None,
+    }
+}
+
+fn place_of_feed(feeds: &[Feed], name: &[u8]) -> Option<usize>
+    ensures exact { result ≡ position (λ feed. bytes_eq feed.name name.now) feeds.now }
+    ensures there { IfSome result (λ feed. feed < length feeds.now) }
+{
+    feeds
+        .iter()
+        .position(|feed| is_word(feed.name.as_bytes(), name))
+}
+
+/// The number of the table with this name.
+pub fn find_table(desc: &Desc, name: &[u8]) -> Option<u16>
+    requires served { IsServed desc.now }
+    ensures exact { result ≡ find_table desc.now name.now }
+    ensures there { IfSome result (λ table. table < length desc.now.tables) }
+{
+    match place_of_table(&desc.tables, name) {
+        Some(table) => Some(table as u16),
+        None => None,
+    }
+}
+
+fn place_of_table(tables: &[Table], name: &[u8]) -> Option<usize>
+    ensures exact { result ≡ position (λ table. bytes_eq table.name name.now) tables.now }
+    ensures there { IfSome result (λ table. table < length tables.now) }
+{
+    tables
+        .iter()
+        .position(|table| is_word(table.name.as_bytes(), name))
+}

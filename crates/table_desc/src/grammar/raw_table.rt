@@ -1,0 +1,124 @@
+//! Raw tables: a feed, a width, a time column and columns.
+
+ghost use Rattle.std.specs.Prelude.{◌≡◌, map, IfOk, IsTrue};
+ghost use Rattle.std.specs.Str.{bytes_eq};
+ghost use Rattle.table_desc.specs.Served.{IsServed};
+ghost use Rattle.table_desc.specs.Names.{is_name};
+ghost use Rattle.table_desc.specs.RawTables.{are_raw_keywords, raw_table_from, read_raw_table, raw_table, read_width};
+
+use crate::grammar::columns::{are_columns, columns_of, find_time};
+use crate::grammar::names::{find_feed, name_text};
+use crate::grammar::words::is_word;
+use crate::{Column, Desc, END, Kind, Table, Width};
+use depot_cell::{Memory, read_number};
+use std::alloc::Global;
+
+/// The raw table with this name that words say: `feed F width W time C cols C:TYPE ..`.
+pub fn read_raw_table(
+    alloc: Global,
+    desc: &Desc,
+    name: &[u8],
+    words: &[&[u8]],
+) -> Result<Option<Table>, Memory>
+    requires served { IsServed desc.now }
+    requires named { IsTrue (is_name name.now) }
+    ensures exact { IfOk result (λ table.
+        table ≡ read_raw_table desc.now name.now (map (λ word. word.now) words.now)) }
+{
+    match words {
+        [
+            feed,
+            of_feed,
+            width,
+            ticks,
+            time,
+            of_time,
+            cols,
+            columns @ ..,
+        ] => {
+            if are_raw_keywords(feed, width, time, cols) {
+                raw_table_from(alloc, desc, name, of_feed, ticks, of_time, columns)
+            } else {
+                Ok(None)
+            }
+        }
+        _ => Ok(None),
+    }
+}
+
+fn are_raw_keywords(feed: &[u8], width: &[u8], time: &[u8], cols: &[u8]) -> bool
+    ensures exact { result ≡ are_raw_keywords feed.now width.now time.now cols.now }
+{
+    is_word(feed, b"feed")
+        && is_word(width, b"width")
+        && is_word(time, b"time")
+        && is_word(cols, b"cols")
+}
+
+fn raw_table_from(
+    alloc: Global,
+    desc: &Desc,
+    name: &[u8],
+    feed: &[u8],
+    width: &[u8],
+    time: &[u8],
+    columns: &[&[u8]],
+) -> Result<Option<Table>, Memory>
+    requires served { IsServed desc.now }
+    requires named { IsTrue (is_name name.now) }
+    ensures exact { IfOk result (λ table. table ≡ raw_table_from desc.now name.now
+        feed.now width.now time.now (map (λ word. word.now) columns.now)) }
+{
+    match columns_of(alloc, columns)? {
+        Some(columns) => raw_table(alloc, desc, name, feed, width, time, columns),
+        None => Ok(None),
+    }
+}
+
+fn raw_table(
+    alloc: Global,
+    desc: &Desc,
+    name: &[u8],
+    feed: &[u8],
+    width: &[u8],
+    time: &[u8],
+    columns: Vec<Column>,
+) -> Result<Option<Table>, Memory>
+    requires served { IsServed desc.now }
+    requires named { IsTrue (is_name name.now) }
+    ensures exact { IfOk result (λ table. table ≡
+        raw_table desc.now name.now feed.now width.now time.now columns.items) }
+{
+    if !are_columns(&columns) {
+        return Ok(None);
+    }
+    let Some(feed) = find_feed(desc, feed) else {
+        return Ok(None);
+    };
+    let Some(width) = read_width(width) else {
+        return Ok(None);
+    };
+    let Some(time) = find_time(&columns, time) else {
+        return Ok(None);
+    };
+    let name = name_text(alloc, name)?;
+    Ok(Some(Table {
+        name,
+        columns,
+        width,
+        kind: Kind::Raw {
+            feed,
+            time: time as u16,
+        },
+    }))
+}
+
+/// The width that a word says.
+pub fn read_width(word: &[u8]) -> Option<Width>
+    ensures exact { result ≡ read_width word.now }
+{
+    match read_number(word) {
+        Some(ticks) if 1 <= ticks && ticks <= END => Some(Width::new(ticks)),
+        _ => None,
+    }
+}
