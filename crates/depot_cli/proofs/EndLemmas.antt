@@ -10,9 +10,9 @@ use Rattle.view_meaning.specs.declared.journal.Entry.{Entry}
 use Rattle.depot_io.specs.Puts.{GainsPrefix}
 use Rattle.depot_cli.specs.declared.script.ScriptFault.{ScriptFault}
 use Rattle.depot_cli.specs.declared.script.ScriptFault.TheVariants.{Input, ReadFault, Memory}
-use Rattle.depot_cli.specs.declared.status.Status.{Status}
-use Rattle.depot_cli.specs.declared.status.Status.TheVariants as status
-use Rattle.depot_cli.specs.declared.work.Work.{Work}
+use Rattle.depot_cli.specs.declared.run.status.Status.{Status}
+use Rattle.depot_cli.specs.declared.run.status.Status.TheVariants as status
+use Rattle.depot_cli.specs.declared.script.work.Work.{Work}
 use Rattle.depot_cli.specs.Reading.{Served, Session, Step, Does, session, session_at, session_from, step_of}
 use Rattle.depot_cli.specs.ScriptCalls.{IsLeftOf, IsReplied, IsStep, status_of_fault}
 use Rattle.depot_cli.specs.SerialJournal.{serial}

@@ -4,8 +4,8 @@ use Rattle.table_desc.specs.Deliveries.{DeliveryOf}
 use Rattle.table_desc.specs.declared.table.Key.{Key}
 use Rattle.view_meaning.specs.declared.journal.Entry.TheVariants as entry
 use Rattle.view_meaning.specs.Journal.{accepted}
-use Rattle.depot_cli.specs.declared.step.Step.{Step}
-use Rattle.depot_cli.specs.declared.step.Step.TheVariants.{Load, Install}
+use Rattle.depot_cli.specs.declared.book.step.Step.{Step}
+use Rattle.depot_cli.specs.declared.book.step.Step.TheVariants.{Load, Install}
 use Rattle.depot_cli.specs.JournalView.{AreSteps, entries_of, loads_in}
 
 -- the accepted deliveries are those of the loads

@@ -32,7 +32,7 @@ use Rattle.view_meaning.proofs.UnsettledLemmas.{unsettled-with_loads}
 use Rattle.view_meaning.proofs.VersionLemmas.{install_places-append, install_places-stay, last_place-Install, last_place-stay}
 use Rattle.view_meaning.proofs.LegalLemmas.{IsLegal-push, last_place-le}
 use Rattle.view_meaning.proofs.SettledLemmas.{is_stale-current}
-use Rattle.depot_cli.specs.declared.version.Version.{Version}
+use Rattle.depot_cli.specs.declared.book.version.Version.{Version}
 use Rattle.depot_cli.specs.KeptJournals.{IsKept, JournalOf, key_cmp, latest, latest_in, number_in, version_made}
 
 -- a test that each element passes

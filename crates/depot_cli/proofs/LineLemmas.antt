@@ -4,13 +4,13 @@ use Rattle.std.specs.Prelude.{IfSome, Option, Some, None, Ok, drop, take}
 use Rattle.std.specs.Io.BufRead.{first_line}
 use Rattle.std.proofs.lemmas.Bool.{ltb-false}
 use Rattle.depot_io.specs.Lines.{LIMIT, Takes, line_take, span}
-use Rattle.depot_cli.specs.declared.status.InputEnd.TheVariants as why
+use Rattle.depot_cli.specs.declared.run.status.InputEnd.TheVariants as why
 use Rattle.table_desc.specs.Words.{is_empty}
 use Rattle.table_desc.specs.Descriptions.{DescOf}
-use Rattle.depot_cli.specs.declared.order.Head.{Head}
-use Rattle.depot_cli.specs.declared.order.Order.{Order}
-use Rattle.depot_cli.specs.declared.order.Order.TheVariants as order
-use Rattle.depot_cli.specs.declared.work.Work.{Work}
+use Rattle.depot_cli.specs.declared.script.order.Head.{Head}
+use Rattle.depot_cli.specs.declared.script.order.Order.{Order}
+use Rattle.depot_cli.specs.declared.script.order.Order.TheVariants as order
+use Rattle.depot_cli.specs.declared.script.work.Work.{Work}
 use Rattle.depot_cli.specs.Orders.{order_of}
 use Rattle.depot_cli.specs.Reading.{NextLine, NoLine, Unreadable, Line, next_line, NextBody, Unfinished, Body, next_body, Does, body_due, body_step, line_due, order_step, line_step, step_of}
 use Rattle.depot_cli.specs.ScriptCalls.{IsBodyUndone, IsLeftOf, IsNextLine}

@@ -20,7 +20,7 @@ use Rattle.view_meaning.specs.Values.{value}
 use Rattle.view_meaning.specs.Versions.{install_places, is_raw}
 use Rattle.view_meaning.specs.declared.request.Mark.TheVariants as mark
 use Rattle.view_meaning.proofs.ContentLemmas.{value-nothing}
-use Rattle.depot_cli.specs.declared.version.Version.{Version}
+use Rattle.depot_cli.specs.declared.book.version.Version.{Version}
 use Rattle.depot_cli.specs.KeptJournals.{latest, version_made}
 use Rattle.view_meaning.proofs.FilterLemmas.{filter-none}
 use Rattle.view_meaning.proofs.SetAsideLemmas.{kept_rows-all, aside_rows-none}

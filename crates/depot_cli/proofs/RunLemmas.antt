@@ -4,8 +4,8 @@ use Rattle.std.specs.Prelude.{Option, Some, None, Ok, Err}
 use Rattle.std.proofs.KnownBytes.{Appends-nil}
 use Rattle.depot_cli.specs.declared.script.ScriptFault.{ScriptFault}
 use Rattle.depot_cli.specs.declared.script.ScriptFault.TheVariants.{Input, ReadFault, Memory}
-use Rattle.depot_cli.specs.declared.status.Status.{Status}
-use Rattle.depot_cli.specs.declared.status.Status.TheVariants as status
+use Rattle.depot_cli.specs.declared.run.status.Status.{Status}
+use Rattle.depot_cli.specs.declared.run.status.Status.TheVariants as status
 use Rattle.table_desc.specs.Descriptions.{DescOf}
 use Rattle.table_desc.specs.Grammar.{Described, described}
 use Rattle.depot_cli.specs.Reading.{OpeningEnd, Go, Broken, Script, Unopened, Misdescribed, Served, opening, reading, script_at, script_behind, session}

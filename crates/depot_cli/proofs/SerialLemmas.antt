@@ -9,8 +9,8 @@ use Rattle.view_meaning.specs.Journal.{is_repeat}
 use Rattle.view_meaning.specs.LegalJournals.{IsLegal}
 use Rattle.view_meaning.proofs.LegalLemmas.{IsLegal-push}
 use Rattle.view_meaning.proofs.DrainLemmas.{IsLegal-drained}
-use Rattle.depot_cli.specs.declared.work.Work.{Work}
-use Rattle.depot_cli.specs.declared.work.Work.TheVariants as work
+use Rattle.depot_cli.specs.declared.script.work.Work.{Work}
+use Rattle.depot_cli.specs.declared.script.work.Work.TheVariants as work
 use Rattle.depot_cli.specs.SerialJournal.{journal_after, serial}
 
 -- an item leaves a legal journal

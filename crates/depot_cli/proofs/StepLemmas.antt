@@ -4,12 +4,12 @@ use Rattle.std.specs.Prelude.{IfSome, Option, Some, None, Result, Ok, Err}
 use Rattle.std.proofs.lemmas.Option.{IfSome_then}
 use Rattle.depot_io.specs.Lines.{line_take}
 use Rattle.table_desc.specs.Descriptions.{DescOf}
-use Rattle.depot_cli.specs.declared.order.Head.{Head}
-use Rattle.depot_cli.specs.declared.order.Order.{Order}
-use Rattle.depot_cli.specs.declared.order.Order.TheVariants as order
+use Rattle.depot_cli.specs.declared.script.order.Head.{Head}
+use Rattle.depot_cli.specs.declared.script.order.Order.{Order}
+use Rattle.depot_cli.specs.declared.script.order.Order.TheVariants as order
 use Rattle.depot_cli.specs.declared.script.ScriptFault.{ScriptFault}
 use Rattle.depot_cli.specs.declared.script.ScriptFault.TheVariants.{Input, ReadFault, Memory}
-use Rattle.depot_cli.specs.declared.work.Work.{Work}
+use Rattle.depot_cli.specs.declared.script.work.Work.{Work}
 use Rattle.depot_cli.specs.Orders.{order_of}
 use Rattle.depot_cli.specs.Reading.{NextLine, Line, next_line, NextBody, Unfinished, Body, next_body, Step, Ends, Does, Stopped, body_due, body_work, body_step, line_due, line_step, order_step, step_of}
 use Rattle.depot_cli.specs.ScriptCalls.{IsBodyUndone, IsDone, IsLeftOf, IsNextBody, IsNextLine, IsStep, IsUndone}

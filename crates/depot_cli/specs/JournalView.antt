@@ -3,8 +3,8 @@ use Rattle.std.specs.Prelude.{ℕ, suc, ◌≡◌, ◌≤◌, List, [], ◌∷�
 use Rattle.table_desc.specs.Deliveries.{DeliveryOf}
 use Rattle.view_meaning.specs.declared.journal.Entry.{Entry}
 use Rattle.view_meaning.specs.declared.journal.Entry.TheVariants as entry
-use Rattle.depot_cli.specs.declared.step.Step.{Step}
-use Rattle.depot_cli.specs.declared.step.Step.TheVariants.{Load, Install}
+use Rattle.depot_cli.specs.declared.book.step.Step.{Step}
+use Rattle.depot_cli.specs.declared.book.step.Step.TheVariants.{Load, Install}
 
 -- how many of the steps are loads
 abbrev pub loads_in : List Step → ℕ

@@ -16,7 +16,7 @@ use Rattle.view_meaning.specs.Values.{value}
 use Rattle.view_meaning.specs.Versions.{install_places, last_place}
 use Rattle.view_meaning.specs.Staleness.{is_settled}
 use Rattle.view_meaning.specs.LegalJournals.{IsLegal}
-use Rattle.depot_cli.specs.declared.version.Version.{Version}
+use Rattle.depot_cli.specs.declared.book.version.Version.{Version}
 
 -- keys go by their tables, then by their numbers
 abbrev pub key_cmp : Key → Key → Ordering

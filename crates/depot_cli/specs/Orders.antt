@@ -9,9 +9,9 @@ use Rattle.view_meaning.specs.declared.request.Mark.TheVariants as mark
 use Rattle.table_desc.specs.Sources.{width_of}
 use Rattle.table_desc.specs.Time.{END}
 use Rattle.view_meaning.specs.Partitions.{parts_met}
-use Rattle.depot_cli.specs.declared.order.Head.{Head}
-use Rattle.depot_cli.specs.declared.order.Order.{Order}
-use Rattle.depot_cli.specs.declared.order.Order.TheVariants as order
+use Rattle.depot_cli.specs.declared.script.order.Head.{Head}
+use Rattle.depot_cli.specs.declared.script.order.Order.{Order}
+use Rattle.depot_cli.specs.declared.script.order.Order.TheVariants as order
 use Rattle.table_desc.specs.Words.{words, begins_comment, is_empty}
 use Rattle.table_desc.specs.Names.{find_feed, find_table}
 

@@ -4,13 +4,13 @@ use Rattle.std.specs.Io.BufRead.{first_line}
 use Rattle.depot_io.specs.Lines.{LIMIT, line_take, span}
 use Rattle.table_desc.specs.declared.delivery.DRow.{DRow}
 use Rattle.table_desc.specs.Descriptions.{DescOf}
-use Rattle.depot_cli.specs.declared.order.Head.{Head}
-use Rattle.depot_cli.specs.declared.order.Order.{Order}
-use Rattle.depot_cli.specs.declared.order.Order.TheVariants as order
-use Rattle.depot_cli.specs.declared.work.Work.{Work}
-use Rattle.depot_cli.specs.declared.work.Work.TheVariants as work
-use Rattle.depot_cli.specs.declared.status.InputEnd.{InputEnd}
-use Rattle.depot_cli.specs.declared.status.InputEnd.TheVariants as why
+use Rattle.depot_cli.specs.declared.script.order.Head.{Head}
+use Rattle.depot_cli.specs.declared.script.order.Order.{Order}
+use Rattle.depot_cli.specs.declared.script.order.Order.TheVariants as order
+use Rattle.depot_cli.specs.declared.script.work.Work.{Work}
+use Rattle.depot_cli.specs.declared.script.work.Work.TheVariants as work
+use Rattle.depot_cli.specs.declared.run.status.InputEnd.{InputEnd}
+use Rattle.depot_cli.specs.declared.run.status.InputEnd.TheVariants as why
 use Rattle.table_desc.specs.Words.{words, is_empty}
 use Rattle.table_desc.specs.Grammar.{Described, described, is_go}
 use Rattle.depot_cli.specs.Orders.{order_of}

@@ -8,8 +8,8 @@ use Rattle.view_meaning.specs.declared.journal.Loaded.{Loaded}
 use Rattle.view_meaning.specs.Journal.{accepted, is_repeat}
 use Rattle.view_meaning.specs.SetAside.{kept_rows, aside_rows}
 use Rattle.view_meaning.specs.Shown.{shown}
-use Rattle.depot_cli.specs.declared.work.Work.{Work}
-use Rattle.depot_cli.specs.declared.work.Work.TheVariants as work
+use Rattle.depot_cli.specs.declared.script.work.Work.{Work}
+use Rattle.depot_cli.specs.declared.script.work.Work.TheVariants as work
 use Rattle.depot_cli.specs.SerialJournal.{journal_after}
 use Rattle.depot_cli.specs.Texts.{feed_name, table_name, loaded_text, repeat_text, refused_text, drained_text, answer_text}
 

@@ -4,9 +4,9 @@ use Rattle.std.specs.declared.option.Option.{Option}
 use Rattle.std.specs.Io.KnownBytes.{Appends}
 use Rattle.depot_io.specs.Causes.{Rose}
 use Rattle.std.specs.Str.{bytes_eq}
-use Rattle.depot_cli.specs.declared.status.Status.{Status}
-use Rattle.depot_cli.specs.declared.status.Status.TheVariants as status
-use Rattle.depot_cli.specs.declared.status.DescCause.TheVariants as cause
+use Rattle.depot_cli.specs.declared.run.status.Status.{Status}
+use Rattle.depot_cli.specs.declared.run.status.Status.TheVariants as status
+use Rattle.depot_cli.specs.declared.run.status.DescCause.TheVariants as cause
 use Rattle.depot_cli.specs.Reading.{Script, Unopened, Misdescribed, Served, Session, SessionEnd, Ended, Stopped}
 use Rattle.table_desc.specs.Descriptions.{DescOf}
 use Rattle.depot_cli.specs.ScriptCalls.{IsLeftOf}

@@ -5,10 +5,10 @@ use Rattle.depot_io.specs.Causes.{Rose}
 use Rattle.depot_io.specs.Puts.{GainsPrefix}
 use Rattle.depot_cli.specs.declared.script.ScriptFault.{ScriptFault}
 use Rattle.depot_cli.specs.declared.script.ScriptFault.TheVariants.{Input, ReadFault, Memory}
-use Rattle.depot_cli.specs.declared.status.Status.{Status}
-use Rattle.depot_cli.specs.declared.status.Status.TheVariants as status
-use Rattle.depot_cli.specs.declared.work.Work.{Work}
-use Rattle.depot_cli.specs.declared.work.Work.TheVariants as work
+use Rattle.depot_cli.specs.declared.run.status.Status.{Status}
+use Rattle.depot_cli.specs.declared.run.status.Status.TheVariants as status
+use Rattle.depot_cli.specs.declared.script.work.Work.{Work}
+use Rattle.depot_cli.specs.declared.script.work.Work.TheVariants as work
 use Rattle.table_desc.specs.Time.{END}
 use Rattle.table_desc.specs.Grammar.{Described, described}
 use Rattle.depot_cli.specs.Reading.{NextLine, NoLine, Unreadable, Line, NextBody, Unfinished, Body, Opening, OpeningEnd, Go, Broken, Step, Ends, Does, Ended, Stopped}

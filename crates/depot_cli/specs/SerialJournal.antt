@@ -7,8 +7,8 @@ use Rattle.table_desc.specs.Sources.{HasEarlierSources}
 use Rattle.view_meaning.specs.Journal.{is_repeat}
 use Rattle.view_meaning.specs.LegalJournals.{IsLegal}
 use Rattle.view_meaning.specs.Drains.{drained}
-use Rattle.depot_cli.specs.declared.work.Work.{Work}
-use Rattle.depot_cli.specs.declared.work.Work.TheVariants as work
+use Rattle.depot_cli.specs.declared.script.work.Work.{Work}
+use Rattle.depot_cli.specs.declared.script.work.Work.TheVariants as work
 
 -- the journal after an item: a delivery that is no repeat is loaded, a drain installs each
 -- partition of a view that is not settled, and nothing else changes it

@@ -4,37 +4,17 @@
 //! `docs/FORMATS.md`, the rules in `docs/RULES.md`.
 #![tactic(auto)]
 
-mod drain;
-mod help;
-mod journal;
-mod laws;
-mod order;
+mod book;
 mod reply;
-mod rows_text;
 mod run;
 mod script;
-mod session;
-mod status;
-mod step;
 #[cfg(test)]
-mod tests_ends;
-#[cfg(test)]
-mod tests_lines;
-#[cfg(test)]
-mod tests_rows;
-#[cfg(test)]
-mod tests_run;
-#[cfg(test)]
-mod tests_views;
-mod texts;
-mod version;
-mod versions;
-mod work;
+mod tests;
 
-use crate::help::text_asked;
-pub use crate::laws::{runs_are_complete, serial_is_legal};
+use crate::run::help::text_asked;
+pub use crate::run::laws::{runs_are_complete, serial_is_legal};
 pub use crate::run::run;
-pub use crate::status::{DescCause, InputEnd, Status};
+pub use crate::run::status::{DescCause, InputEnd, Status};
 use depot_io::{StdSink, StdSource, put_all};
 use std::env;
 use std::process::ExitCode;

@@ -1,5 +1,8 @@
 //! What is done for each item of a script, and what is written in reply.
 
+pub mod rows_text;
+pub mod texts;
+
 ghost use Rattle.std.specs.Prelude.{◌≡◌, ◌+◌, ◌<◌, ◌≤◌, ◌^◌, ◌++◌, true, false, length, map, flat_map, IfOk, OnOk, slice_get, option_copied, Some};
 ghost use Rattle.table_desc.specs.Time.{END};
 ghost use Rattle.view_meaning.specs.Shown.{shown, shown_part};
@@ -7,7 +10,7 @@ ghost use Rattle.view_meaning.specs.Versions.{is_raw_kind};
 ghost use Rattle.view_meaning.specs.Drains.{drained};
 ghost use Rattle.std.specs.List.{range_with_len};
 ghost use Rattle.table_desc.specs.Kinds.{kind_of};
-ghost use Rattle.depot_cli.specs.declared.work.Work.TheVariants as work;
+ghost use Rattle.depot_cli.specs.declared.script.work.Work.TheVariants as work;
 ghost use Rattle.depot_cli.specs.ScriptCalls.{IsAnswerable};
 ghost use Rattle.table_desc.specs.Served.{IsServed};
 ghost use Rattle.depot_cli.specs.KeptJournals.{IsKept};
@@ -15,11 +18,13 @@ ghost use Rattle.depot_cli.specs.SerialJournal.{journal_after};
 ghost use Rattle.depot_cli.specs.Texts.{answer_text, drained_text, feed_name, shown_text, table_name};
 ghost use Rattle.depot_cli.specs.Replies.{load_reply, reply};
 
-use crate::drain::drain;
-use crate::journal::Journal;
-use crate::rows_text::rows_text;
-use crate::texts::{answer_line, drained_text, loaded_text, part_text, refused_text, repeat_text};
-use crate::work::Work;
+use crate::book::drain::drain;
+use crate::book::journal::Journal;
+use crate::reply::rows_text::rows_text;
+use crate::reply::texts::{
+    answer_line, drained_text, loaded_text, part_text, refused_text, repeat_text,
+};
+use crate::script::work::Work;
 use depot_cell::{Memory, Rows};
 use std::alloc::Global;
 use table_desc::{Delivery, Desc, Key, Kind, Table};

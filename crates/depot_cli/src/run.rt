@@ -1,5 +1,10 @@
 //! The top call: all that the program does.
 
+pub mod help;
+pub mod laws;
+pub mod session;
+pub mod status;
+
 ghost use Rattle.std.specs.Prelude.{◌≡◌, ◌↔◌, ◌≤◌, IfSome, IfOk, false, map, string_bytes};
 ghost use Rattle.std.specs.Io.KnownBytes.{Keeps};
 ghost use Rattle.depot_io.specs.Causes.{Rose};
@@ -9,9 +14,9 @@ ghost use Rattle.depot_cli.specs.Reading.{Served, opening, reading, session};
 ghost use Rattle.depot_cli.specs.ScriptCalls.{IsOpened, IsScriptCause};
 ghost use Rattle.depot_cli.specs.Runs.{EndsSession, HasRunCauses, IsRun, is_trial};
 
+use crate::run::session::{serve, status_of};
+use crate::run::status::{DescCause, Status};
 use crate::script::{ScriptFault, read_opening};
-use crate::session::{serve, status_of};
-use crate::status::{DescCause, Status};
 use depot_io::{LineReader, Sink, Source};
 use std::alloc::Global;
 use table_desc::{Desc, Draft};

@@ -1,5 +1,8 @@
 //! Reading a script: its lines and bodies, and what each asks for.
 
+pub mod order;
+pub mod work;
+
 ghost use Rattle.std.specs.Prelude.{◌≡◌, ◌+◌, ◌≤◌, ◌<◌, length, IfSome, IfOk, OnOk, OnSome, Ok, true};
 ghost use Rattle.depot_io.specs.Lines.{LIMIT, line_take};
 ghost use Rattle.table_desc.specs.Words.{words};
@@ -9,9 +12,9 @@ ghost use Rattle.depot_cli.specs.Orders.{BODY_LIMIT};
 ghost use Rattle.depot_cli.specs.Reading.{line_due, next_line, next_body, body_work as work_of_body, step_of, opening};
 ghost use Rattle.depot_cli.specs.ScriptCalls.{IsAnswerable, IsNextLine, IsNextBody, IsOpening, IsStep, IsScriptCause};
 
-use crate::order::{Head, Order, read_order};
-use crate::status::InputEnd;
-use crate::work::Work;
+use crate::run::status::InputEnd;
+use crate::script::order::{Head, Order, read_order};
+use crate::script::work::Work;
 use depot_cell::Memory;
 use depot_io::{Line, LineFault, LineReader, Source};
 use feed_csv::read_rows;

@@ -1,0 +1,58 @@
+//! The latest version of each partition of a view that was computed, with its rows.
+
+ghost use Rattle.std.specs.Prelude.{Some, ◌≡◌, [], OnOk, option_copied, if◌then◌else◌};
+ghost use Rattle.std.specs.Ordering.{is_eq};
+ghost use Rattle.table_desc.specs.declared.table.Key.{Key as KeyOf};
+ghost use Rattle.depot_cli.specs.KeptJournals.{key_cmp, latest_in};
+
+use crate::book::version::Version;
+use depot_cell::Memory;
+use std::alloc::Global;
+use std::collections::BTreeMap;
+use std::marker::Model;
+use table_desc::Key;
+
+/// The latest versions, by key.
+#[derive(Debug, Drop)]
+pub struct Versions {
+    latest: BTreeMap<Key, Version>,
+}
+
+impl Model for Versions {
+    ghost use Rattle.std.specs.Prelude.{List};
+    ghost use Rattle.table_desc.specs.declared.table.Key.{Key as KeyOf};
+    ghost use Rattle.depot_cli.specs.declared.book.version.Version.{Version as VersionOf};
+
+    ghost Value = { List (KeyOf × VersionOf) };
+
+    ghost view = { λ versions. versions.latest.entries };
+}
+
+impl Versions {
+    /// No version.
+    pub fn new(alloc: Global) -> Versions
+        ensures { result ≡ [] }
+    {
+        Versions {
+            latest: BTreeMap::new(alloc),
+        }
+    }
+
+    /// The latest version of a partition, where there is one.
+    pub fn latest(&self, key: Key) -> Option<&Version>
+        ensures { option_copied result ≡ latest_in self.now key }
+    {
+        self.latest.get(&key)
+    }
+
+    /// Makes a version the latest one of its partition.
+    pub fn put(&mut self, key: Key, version: Version) -> Result<(), Memory>
+        ensures found { OnOk result ((other : KeyOf) → latest_in self.new other
+            ≡ (if is_eq (key_cmp key other) then Some version else latest_in self.old other)) }
+    {
+        match self.latest.insert(key, version) {
+            Ok(_) => Ok(()),
+            Err(_) => Err(Memory),
+        }
+    }
+}

@@ -1,0 +1,153 @@
+//! A session: each item is read, done and replied to before the next one is read.
+
+ghost use Rattle.std.specs.Prelude.{◌≡◌, ◌≤◌, [], IfSome, OnOk, if◌then◌else◌};
+ghost use Rattle.depot_io.specs.Causes.{Rose};
+ghost use Rattle.depot_io.specs.Lines.{LIMIT};
+ghost use Rattle.table_desc.specs.Served.{IsServed};
+ghost use Rattle.depot_cli.specs.Reading.{Served, session};
+ghost use Rattle.depot_cli.specs.ScriptCalls.{IsAnswerable, IsReplied, IsReplyCause, status_of_fault};
+ghost use Rattle.depot_cli.specs.SerialJournal.{journal_after};
+ghost use Rattle.depot_cli.specs.KeptJournals.{IsKept};
+ghost use Rattle.depot_cli.specs.Replies.{is_refused, reply};
+ghost use Rattle.depot_cli.specs.Runs.{EndsSession, HasRunCauses, IsRun};
+
+use crate::book::journal::Journal;
+use crate::reply::answer;
+use crate::run::status::Status;
+use crate::script::work::Work;
+use crate::script::{ScriptFault, next_work};
+use depot_cell::Memory;
+use depot_io::{LineReader, Sink, Source, put_all};
+use std::alloc::Global;
+use std::mem;
+use table_desc::Desc;
+
+/// Serves the session lines that a reader has left, up to the end of its input or to the word
+/// `end`. `base` is the place at which the reader's input begins.
+pub fn serve<S: Source, O: Sink>(
+    alloc: Global,
+    desc: &Desc,
+    base: u64,
+    reader: &mut LineReader<S>,
+    sink: &mut O,
+) -> Status
+    requires served { IsServed desc.now }
+    requires in_input { base ≤ LIMIT }
+    requires start { reader.old.taken ≡ 0 }
+    ensures run { IfSome (S.bytes_left reader.old.source) (λ input.
+        IsRun (Served desc.now (session desc.now base input)) (O.bytes_got sink.old)
+        (O.bytes_got sink.new) (S.bytes_left reader.new.source) result) }
+    ensures causes { HasRunCauses (S.faults reader.old.source) (S.faults reader.new.source)
+        (O.faults sink.old) (O.faults sink.new) result }
+    ensures others { EndsSession result }
+    ensures place { S.place reader.new.source ≡ S.place reader.old.source }
+{
+    let mut journal = Journal::new(alloc);
+    let status = serve_items(alloc, desc, base, &mut journal, reader, sink);
+    // The process ends with the run: to give each row back by itself would be a tenth of loading.
+    mem::forget(journal);
+    status
+}
+
+/// Serves the items over a journal that is empty.
+fn serve_items<S: Source, O: Sink>(
+    alloc: Global,
+    desc: &Desc,
+    base: u64,
+    journal: &mut Journal,
+    reader: &mut LineReader<S>,
+    sink: &mut O,
+) -> Status
+    requires served { IsServed desc.now }
+    requires in_input { base ≤ LIMIT }
+    requires empty { journal.old.entries ≡ [] }
+    requires kept { IsKept desc.now journal.old }
+    requires start { reader.old.taken ≡ 0 }
+    ensures run { IfSome (S.bytes_left reader.old.source) (λ input.
+        IsRun (Served desc.now (session desc.now base input)) (O.bytes_got sink.old)
+        (O.bytes_got sink.new) (S.bytes_left reader.new.source) result) }
+    ensures causes { HasRunCauses (S.faults reader.old.source) (S.faults reader.new.source)
+        (O.faults sink.old) (O.faults sink.new) result }
+    ensures others { EndsSession result }
+    ensures place { S.place reader.new.source ≡ S.place reader.old.source }
+{
+    let mut body = Vec::new(alloc);
+    let mut refused = false;
+    let mut line = 1;
+    'items: loop {
+        let work = match next_work(alloc, desc, base, reader, &mut body) {
+            Ok(Some(work)) => work,
+            Ok(None) => return end_of(refused),
+            Err(fault) => return status_of(fault),
+        };
+        let is_refused = is_refused(&work);
+        match serve_item(alloc, desc, line, journal, work, sink) {
+            Ok(()) => {}
+            Err(status) => return status,
+        }
+        refused |= is_refused;
+        line += 1;
+    }
+}
+
+/// Does what an item asks for, and puts the reply into the sink. Where that fails the sink has got
+/// a front of the reply, and where there was no memory nothing.
+fn serve_item<O: Sink>(
+    alloc: Global,
+    desc: &Desc,
+    line: u64,
+    journal: &mut Journal,
+    work: Work,
+    sink: &mut O,
+) -> Result<(), Status>
+    requires served { IsServed desc.now }
+    requires kept { IsKept desc.now journal.old }
+    requires in_range { IsAnswerable work }
+    ensures replied { IsReplied (O.bytes_got sink.old) (O.bytes_got sink.new)
+        (reply desc.now line journal.old.entries work) result }
+    ensures ok { OnOk result
+        (journal.new.entries ≡ journal_after desc.now journal.old.entries work) }
+    ensures kept { OnOk result (IsKept desc.now journal.new) }
+    ensures cause { IsReplyCause (O.faults sink.old) (O.faults sink.new) result }
+{
+    let text = match answer(alloc, desc, line, journal, work) {
+        Ok(text) => text,
+        Err(Memory) => return Err(Status::Memory),
+    };
+    match put_all(sink, &text) {
+        Ok(()) => Ok(()),
+        Err(_) => Err(Status::WriteFault),
+    }
+}
+
+/// Whether an item is refused.
+fn is_refused(work: &Work) -> bool
+    ensures { result ≡ is_refused work.now }
+{
+    match work {
+        Work::Refused => true,
+        Work::Nothing | Work::Load(_) | Work::Drain | Work::Query(_) => false,
+    }
+}
+
+/// The status of a session that was read to its end.
+fn end_of(refused: bool) -> Status
+    ensures { result ≡ (if refused then Status.Refused else Status.Done) }
+{
+    if refused {
+        Status::Refused
+    } else {
+        Status::Done
+    }
+}
+
+/// The status of a script that was not read on.
+pub fn status_of(fault: ScriptFault) -> Status
+    ensures { result ≡ status_of_fault fault }
+{
+    match fault {
+        ScriptFault::Input { why, place } => Status::Input { why, place },
+        ScriptFault::ReadFault => Status::ReadFault,
+        ScriptFault::Memory => Status::Memory,
+    }
+}

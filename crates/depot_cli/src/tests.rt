@@ -1,0 +1,5 @@
+mod ends;
+mod lines;
+mod runs;
+mod texts;
+mod views;
