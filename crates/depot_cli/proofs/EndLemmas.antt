@@ -149,11 +149,11 @@ IsRun-fault desc base turns taken taken_now bytes step items dues got_before got
     subst (λ (step : Step). IsRun (Served desc (after_items items dues
     (session_at (session_from desc base turns) step)))
     got_before got_now left (status.Input why place))
-    (sym stops)
+    (sym stops.1)
     (record {
       told = refl;
       gains = replies-all desc items got_before got_now replied;
-      left = λ whole. cc;
+      left = λ whole. stops.2;
     })
 IsRun-fault desc base turns taken taken_now bytes step items dues got_before got_now left
     ReadFault is_step paired replied undone =

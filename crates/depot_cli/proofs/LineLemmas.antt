@@ -22,14 +22,14 @@ is_empty-false [] none = cc
 is_empty-false (byte ∷ bytes) some = omega arith
 
 -- a line that is there was not the end, is not too wide, and leaves what it did not take
-line_there : (long empty wide : Bool) (line rest its_line its_rest : List ℕ)
-    → (if long then Unreadable why.Long else if empty then NoLine
-    else if wide then Unreadable why.LongLine else Line line rest) ≡ Line its_line its_rest
+line_there : (long empty wide : Bool) (over line rest its_line its_rest : List ℕ)
+    → (if long then Unreadable why.Long over else if empty then NoLine
+    else if wide then Unreadable why.LongLine rest else Line line rest) ≡ Line its_line its_rest
     → (empty ≡ false) × (wide ≡ false) × (rest ≡ its_rest)
-line_there true empty wide line rest its_line its_rest there = cc
-line_there false true wide line rest its_line its_rest there = cc
-line_there false false true line rest its_line its_rest there = cc
-line_there false false false line rest its_line its_rest there = (refl, refl, cc)
+line_there true empty wide over line rest its_line its_rest there = cc
+line_there false true wide over line rest its_line its_rest there = cc
+line_there false false true over line rest its_line its_rest there = cc
+line_there false false false over line rest its_line its_rest there = (refl, refl, cc)
 
 -- a line leaves less than there was, and no more than is due of it
 pub next_line-shorter : (taken : ℕ) (bytes line rest : List ℕ)
@@ -37,8 +37,8 @@ pub next_line-shorter : (taken : ℕ) (bytes line rest : List ℕ)
     → (length rest < length bytes) × (length rest ≤ line_due bytes)
 next_line-shorter taken bytes line rest there =
     let parts = line_there (nat_le LIMIT (taken + line_take bytes)) (is_empty bytes)
-    (nat_lt 4096 (span bytes)) (first_line bytes) (drop (line_take bytes) bytes)
-    line rest there in
+    (nat_lt 4096 (span bytes)) (drop (LIMIT - taken) bytes) (first_line bytes)
+    (drop (line_take bytes) bytes) line rest there in
     let some = is_empty-false bytes parts.0 in
     let narrow = ltb-false 4096 (span bytes) parts.1 in
     let left : length bytes - line_take bytes ≡ length rest =
@@ -46,13 +46,13 @@ next_line-shorter taken bytes line rest there =
     (omega arith, omega arith)
 
 -- a body that is there leaves what it did not take
-body_there : (long cut : Bool) (body rest its_body its_rest : List ℕ)
-    → (if long then Unfinished why.Long else if cut then Unfinished why.Cut else Body body rest)
-    ≡ Body its_body its_rest
+body_there : (long cut : Bool) (over body rest its_body its_rest : List ℕ)
+    → (if long then Unfinished why.Long over
+    else if cut then Unfinished why.Cut [] else Body body rest) ≡ Body its_body its_rest
     → rest ≡ its_rest
-body_there true cut body rest its_body its_rest there = cc
-body_there false true body rest its_body its_rest there = cc
-body_there false false body rest its_body its_rest there = cc
+body_there true cut over body rest its_body its_rest there = cc
+body_there false true over body rest its_body its_rest there = cc
+body_there false false over body rest its_body its_rest there = cc
 
 -- a body leaves what stands behind it
 next_body-left : (taken size : ℕ) (bytes body rest : List ℕ)
@@ -60,7 +60,8 @@ next_body-left : (taken size : ℕ) (bytes body rest : List ℕ)
     → length rest ≡ length bytes - size
 next_body-left taken size bytes body rest there =
     let is_rest = body_there (nat_le LIMIT (taken + min size (length bytes)))
-    (nat_lt (length bytes) size) (take size bytes) (drop size bytes) body rest there in
+    (nat_lt (length bytes) size) (drop (LIMIT - taken) bytes) (take size bytes)
+    (drop size bytes) body rest there in
     ap length (sym is_rest) ∙ length-drop size bytes
 
 -- a body is due no later than its line, and not before what stands behind it
@@ -90,7 +91,7 @@ body_step-left : (desc : DescOf) (base due taken size : ℕ) (head : Option Head
     → next_body taken size bytes ≡ next
     → body_step desc base due taken head size next ≡ Does work its_due taken_now rest
     → (length rest ≡ length bytes - size) × (its_due ≡ due)
-body_step-left desc base due taken size head bytes rest (Unfinished cause) work its_due taken_now
+body_step-left desc base due taken size head bytes rest (Unfinished cause left) work its_due taken_now
     is_next does = cc
 body_step-left desc base due taken size head bytes rest (Body body behind) work its_due taken_now
     is_next does =
@@ -145,7 +146,8 @@ line_step-leaves : (desc : DescOf) (base taken : ℕ) (bytes rest : List ℕ) (n
     → line_step desc base taken bytes next ≡ Does work due taken_now rest
     → StepLeaves (length bytes) (line_due bytes) due rest
 line_step-leaves desc base taken bytes rest NoLine work due taken_now is_next does = cc
-line_step-leaves desc base taken bytes rest (Unreadable cause) work due taken_now is_next does = cc
+line_step-leaves desc base taken bytes rest (Unreadable cause left) work due taken_now is_next
+    does = cc
 line_step-leaves desc base taken bytes rest (Line line behind) work due taken_now is_next does =
     let shorter = next_line-shorter taken bytes line behind is_next in
     let leaves = order_step-leaves desc base (line_due bytes) (taken + line_take bytes)

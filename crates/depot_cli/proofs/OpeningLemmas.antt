@@ -1,6 +1,6 @@
 -- How far a description was read: what its lines so far describe, and that what is left goes on
 -- to the opening of the whole input.
-use Rattle.std.proofs.Common.{◌≡◌, ℕ, suc, zero, ◌+◌, ◌≤◌, List, [], ◌∷◌, ◌++◌, length, Bool, true, false, refl, sym, ap, ◌∙◌, arith, append_assoc, subst}
+use Rattle.std.proofs.Common.{◌≡◌, ℕ, suc, zero, ◌+◌, ◌≤◌, List, [], ◌∷◌, ◌++◌, length, Bool, true, false, refl, sym, ap, ◌∙◌, arith, append_assoc, append-nil, subst}
 use Rattle.std.specs.Prelude.{IfSome, Option, Some, None, Ok, Err}
 use Rattle.std.proofs.lemmas.List.Sums.{fold-append}
 use Rattle.depot_io.specs.Lines.{line_take}
@@ -122,7 +122,7 @@ opening_at-left : (more : List ℕ → Opening) (taken taken_now : ℕ) (bytes r
     → (opening_at more taken bytes next).end ≡ Go taken_now rest
     → length rest ≤ line_due bytes
 opening_at-left more taken taken_now bytes rest NoLine later is_next goes = cc
-opening_at-left more taken taken_now bytes rest (Unreadable cause) later is_next goes = cc
+opening_at-left more taken taken_now bytes rest (Unreadable cause left) later is_next goes = cc
 opening_at-left more taken taken_now bytes rest (Line line behind) later is_next goes =
     by_line (is_go (words line)) goes
   where
@@ -154,7 +154,7 @@ IsBeforeGo-le : (end : OpeningEnd) (left : Option (List ℕ)) (count : ℕ)
     → IsLeftOf left count → IsBeforeGo end left
 IsBeforeGo-le (Go taken rest) left count least is_left =
     IsLeftOf-le left count (length rest) (least taken rest refl) is_left
-IsBeforeGo-le (Broken why place) left count least is_left = tt
+IsBeforeGo-le (Broken why place rest) left count least is_left = tt
 
 -- a fault at a line is one of the opening
 opening_fault : (whole : Opening) (turns taken taken_now place : ℕ) (rest line : List ℕ)
@@ -164,10 +164,13 @@ opening_fault : (whole : Opening) (turns taken taken_now place : ℕ) (rest line
     → IsNextLine (next_line taken rest) (line_due rest) place line left_now (Err fault)
     → IsOpening whole taken_now left_now (Err fault)
 opening_fault whole turns taken taken_now place rest line lines left_now (Input why at) goes_on
-    is_place answer =
-    ap (λ (opening : Opening). opening.end)
-    (sym (opening_next whole lines turns taken rest (Unreadable why) answer.0 goes_on))
-    ∙ ap (λ (place : ℕ). Broken why place) (sym (answer.1 ∙ is_place))
+    is_place answer = (
+      answer.0,
+      ap (λ (opening : Opening). opening.end)
+      (sym (opening_next whole lines turns taken rest (Unreadable why answer.0) answer.1 goes_on))
+      ∙ ap (λ (place : ℕ). Broken why place answer.0) (sym (answer.3 ∙ is_place)),
+      answer.2,
+    )
 opening_fault whole turns taken taken_now place rest line lines left_now ReadFault goes_on is_place
     answer =
     subst (λ (opening : Opening). IsBeforeGo opening.end left_now) goes_on
@@ -212,3 +215,44 @@ lines-with_line before line =
     counted true declared = refl
     counted false None = refl
     counted false (Some desc) = refl
+
+-- the opening at its `go` line
+opening_at-go : (more : List ℕ → Opening) (taken : ℕ) (bytes line rest : List ℕ)
+    → is_go (words line) ≡ true
+    → opening_at more taken bytes (Line line rest)
+    ≡ record { lines = []; end = Go (taken + line_take bytes) rest }
+opening_at-go more taken bytes line rest goes = rw goes refl
+
+-- the `go` line ends the opening, and what it describes is what was read before
+pub HasOpened-go : (whole : Opening) (before : Described) (taken taken_now place : ℕ)
+    (line : List ℕ) (there : Bool) (left left_now : Option (List ℕ))
+    → HasOpened whole before taken left
+    → there ≡ true
+    → IfSome left (λ bytes.
+    IsNextLine (next_line taken bytes) (line_due bytes) place line left_now (Ok there))
+    → IfSome left (λ bytes. taken_now ≡ taken + line_take bytes)
+    → is_go (words line) ≡ true
+    → IsOpening whole taken_now left_now (Ok before)
+HasOpened-go whole before taken taken_now place line there left left_now opened is_there answer
+    counted goes =
+    let answered = known_line taken place line left_now left opened.rest there
+    opened.is_left is_there answer in
+    let count = IfSome-known left opened.rest (λ bytes. taken_now ≡ taken + line_take bytes)
+    opened.is_left counted in
+    let more = opening_from opened.turns (taken + line_take opened.rest) in
+    let ended : after_lines opened.lines (record {
+      lines = [];
+      end = Go (taken + line_take opened.rest) answered.0;
+    }) ≡ whole =
+    ap (λ (opening : Opening). after_lines opened.lines opening)
+    (sym (opening_at-go more taken opened.rest line answered.0 goes))
+    ∙ opening_next whole opened.lines opened.turns taken opened.rest (Line line answered.0)
+    answered.1 opened.goes_on in
+    (
+      answered.0,
+      opened.describes ∙ ap (λ (lines : List (List ℕ)). described lines)
+      (sym (append-nil opened.lines) ∙ ap (λ (opening : Opening). opening.lines) ended),
+      sym (ap (λ (opening : Opening). opening.end) ended)
+      ∙ ap (λ (taken : ℕ). Go taken answered.0) (sym count),
+      answered.2,
+    )

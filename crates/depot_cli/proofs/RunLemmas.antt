@@ -6,6 +6,7 @@ use Rattle.depot_cli.specs.declared.script.ScriptFault.{ScriptFault}
 use Rattle.depot_cli.specs.declared.script.ScriptFault.TheVariants.{Input, ReadFault, Memory}
 use Rattle.depot_cli.specs.declared.run.status.Status.{Status}
 use Rattle.depot_cli.specs.declared.run.status.Status.TheVariants as status
+use Rattle.depot_cli.specs.declared.run.status.DescCause.TheVariants as cause
 use Rattle.table_desc.specs.Descriptions.{DescOf}
 use Rattle.table_desc.specs.Grammar.{Described, described}
 use Rattle.depot_cli.specs.Reading.{OpeningEnd, Go, Broken, Script, Unopened, Misdescribed, Served, opening, reading, script_at, script_behind, session}
@@ -42,8 +43,8 @@ IsRun-opened input before desc taken left got_before got_now left_now ended open
 
 -- nothing was put, whatever the reading is
 GainsFrontOf-start : (script : Script) (got : Option (List ℕ)) → GainsFrontOf script got got
-GainsFrontOf-start (Unopened why place) got = Appends-nil got
-GainsFrontOf-start (Misdescribed line) got = Appends-nil got
+GainsFrontOf-start (Unopened why place rest) got = Appends-nil got
+GainsFrontOf-start (Misdescribed line rest) got = Appends-nil got
 GainsFrontOf-start (Served desc session) got = GainsFront-start desc session got
 
 -- nothing was put, and nothing behind the description was taken
@@ -61,7 +62,7 @@ GainsTakenOf-start : (before : Described) (end : OpeningEnd) (got left : Option 
     → GainsTakenOf (script_at before end) got got left
 GainsTakenOf-start before (Go taken rest) got left is_left =
     GainsTakenOf-behind before taken rest before.bad got left is_left
-GainsTakenOf-start before (Broken why place) got left is_left = Appends-nil got
+GainsTakenOf-start before (Broken why place rest) got left is_left = Appends-nil got
 
 -- the run of an input whose description was not read
 pub IsRun-unopened : (input : List ℕ) (got left : Option (List ℕ)) (fault : ScriptFault)
@@ -70,11 +71,11 @@ pub IsRun-unopened : (input : List ℕ) (got left : Option (List ℕ)) (fault : 
 IsRun-unopened input got left (Input why place) breaks =
     subst (λ (end : OpeningEnd).
     IsRun (script_at (described (opening input).lines) end) got got left (status.Input why place))
-    (sym breaks)
+    (sym breaks.1)
     (record {
       told = refl;
       gains = Appends-nil got;
-      left = λ whole. cc;
+      left = λ whole. breaks.2;
     })
 IsRun-unopened input got left ReadFault is_before = record {
   told = tt;
@@ -87,6 +88,31 @@ IsRun-unopened input got left Memory breaks = record {
   gains = GainsFrontOf-start (reading input) got;
   left = λ whole. cc;
 }
+
+-- a bad description is followed by what is left after its `go` line
+reading-misdescribed : (input : List ℕ) (before : Described) (taken line : ℕ) (rest : List ℕ)
+    → before ≡ described (opening input).lines → (opening input).end ≡ Go taken rest
+    → before.bad ≡ Some line
+    → reading input ≡ Misdescribed line rest
+reading-misdescribed input before taken line rest describes ends is_bad =
+    ap (λ (before : Described). script_at before (opening input).end) (sym describes)
+    ∙ ap (λ (end : OpeningEnd). script_at before end) ends
+    ∙ ap (λ (bad : Option ℕ). script_behind before taken rest bad) is_bad
+
+-- the run of an input whose description is not accepted
+pub IsRun-misdescribed : (input : List ℕ) (before : Described) (taken line : ℕ)
+    (got left : Option (List ℕ))
+    → IsOpening (opening input) taken left (Ok before) → before.bad ≡ Some line
+    → IsRun (reading input) got got left (status.BadDescription line cause.Later)
+IsRun-misdescribed input before taken line got left opened is_bad =
+    subst (λ (script : Script). IsRun script got got left
+    (status.BadDescription line cause.Later))
+    (sym (reading-misdescribed input before taken line opened.0 opened.1 opened.2 is_bad))
+    (record {
+      told = refl;
+      gains = Appends-nil got;
+      left = λ whole. opened.3;
+    })
 
 -- a run of which nothing was asked
 pub IsRun-usage : (got left left_now : Option (List ℕ))

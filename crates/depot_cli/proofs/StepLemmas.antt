@@ -39,9 +39,12 @@ IsStep-at_line : (desc : DescOf) (base taken taken_now : ℕ) (bytes line : List
     (left : Option (List ℕ)) (fault : ScriptFault)
     → IsNextLine (next_line taken bytes) (line_due bytes) (base + taken) line left (Err fault)
     → IsStep (step_of desc base taken bytes) taken_now left (Err fault)
-IsStep-at_line desc base taken taken_now bytes line left (Input why place) answer =
-    ap (λ (next : NextLine). line_step desc base taken bytes next) answer.0
-    ∙ ap (λ (place : ℕ). Ends (Stopped why place)) (sym answer.1)
+IsStep-at_line desc base taken taken_now bytes line left (Input why place) answer = (
+      answer.0,
+      ap (λ (next : NextLine). line_step desc base taken bytes next) answer.1
+      ∙ ap (λ (place : ℕ). Ends (Stopped why place answer.0)) (sym answer.3),
+      answer.2,
+    )
 IsStep-at_line desc base taken taken_now bytes line left ReadFault answer =
     IsUndone-line desc base taken bytes left answer
 IsStep-at_line desc base taken taken_now bytes line left Memory answer = absurd answer
@@ -81,7 +84,7 @@ IsLeftOf-body due (suc size) bytes left undone =
 body_step-undone : (desc : DescOf) (base due taken size : ℕ) (head : Option Head)
     (next : NextBody) (left : Option (List ℕ))
     → IsLeftOf left due → IsUndone (body_step desc base due taken head size next) left
-body_step-undone desc base due taken size head (Unfinished cause) left is_left = tt
+body_step-undone desc base due taken size head (Unfinished cause rest) left is_left = tt
 body_step-undone desc base due taken size head (Body body rest) left is_left = is_left
 
 -- a fault at a body is one at the step that stands there
@@ -90,10 +93,13 @@ IsStep-at_body : (desc : DescOf) (base due taken taken_now size : ℕ) (head : O
     → IsNextBody (next_body taken size bytes) size (base + taken) bytes body left (Err fault)
     → IsStep (order_step desc base due taken (order.Body head size) bytes) taken_now left
     (Err fault)
-IsStep-at_body desc base due taken taken_now size head bytes body left (Input why place) answer =
-    ap (λ (next : NextBody).
-    body_step desc base (body_due due size bytes) taken head size next) answer.0
-    ∙ ap (λ (place : ℕ). Ends (Stopped why place)) (sym answer.1)
+IsStep-at_body desc base due taken taken_now size head bytes body left (Input why place) answer = (
+      answer.0,
+      ap (λ (next : NextBody).
+      body_step desc base (body_due due size bytes) taken head size next) answer.1
+      ∙ ap (λ (place : ℕ). Ends (Stopped why place answer.0)) (sym answer.3),
+      answer.2,
+    )
 IsStep-at_body desc base due taken taken_now size head bytes body left ReadFault answer =
     body_step-undone desc base (body_due due size bytes) taken size head
     (next_body taken size bytes) left (IsLeftOf-body due size bytes left answer)

@@ -16,39 +16,41 @@ use Rattle.table_desc.specs.Grammar.{Described, described, is_go}
 use Rattle.depot_cli.specs.Orders.{order_of}
 use Rattle.feed_csv.specs.Bodies.{rows_of}
 
--- what the next line of an input is: there is none, it cannot be read, or it is there, with what
--- is left behind it
+-- what the next line of an input is: there is none, it cannot be read, or it is there; with what
+-- is left after it, or after what was taken to tell that
 pub data NextLine : Type 0 where
   NoLine : NextLine
-  Unreadable : InputEnd → NextLine
+  Unreadable : InputEnd → (rest : List ℕ) → NextLine
   Line : (line rest : List ℕ) → NextLine
 
 -- the next line, where the reader took this many bytes before these
 abbrev pub next_line : (taken : ℕ) → List ℕ → NextLine
 next_line taken bytes =
-    if nat_le LIMIT (taken + line_take bytes) then Unreadable why.Long
+    if nat_le LIMIT (taken + line_take bytes) then Unreadable why.Long (drop (LIMIT - taken) bytes)
     else if is_empty bytes then NoLine
-    else if nat_lt 4096 (span bytes) then Unreadable why.LongLine
+    else if nat_lt 4096 (span bytes)
+    then Unreadable why.LongLine (drop (line_take bytes) bytes)
     else Line (first_line bytes) (drop (line_take bytes) bytes)
 
--- what the next body of an input is: it cannot be read whole, or it is there, with what is left
--- behind it
+-- what the next body of an input is: it cannot be read whole, or it is there; with what is left
+-- after it, or after what was taken to tell that
 pub data NextBody : Type 0 where
-  Unfinished : InputEnd → NextBody
+  Unfinished : InputEnd → (rest : List ℕ) → NextBody
   Body : (body rest : List ℕ) → NextBody
 
 -- the next body of this size, where the reader took this many bytes before these
 abbrev pub next_body : (taken size : ℕ) → List ℕ → NextBody
 next_body taken size bytes =
-    if nat_le LIMIT (taken + min size (length bytes)) then Unfinished why.Long
-    else if nat_lt (length bytes) size then Unfinished why.Cut
+    if nat_le LIMIT (taken + min size (length bytes))
+    then Unfinished why.Long (drop (LIMIT - taken) bytes)
+    else if nat_lt (length bytes) size then Unfinished why.Cut []
     else Body (take size bytes) (drop size bytes)
 
--- how a description ends: at its `go` line, with what is left behind it, or because the input
--- cannot be read on at this place
+-- how a description ends: at its `go` line, or because the input cannot be read on at this place;
+-- with what is left
 pub data OpeningEnd : Type 0 where
   Go : (taken : ℕ) → (rest : List ℕ) → OpeningEnd
-  Broken : InputEnd → (place : ℕ) → OpeningEnd
+  Broken : InputEnd → (place : ℕ) → (rest : List ℕ) → OpeningEnd
 
 -- the lines before the `go` line, and how they end
 pub record Opening : Type 0 where
@@ -62,8 +64,9 @@ after_line line opening = record opening { lines = line ∷ opening.lines }
 -- the opening that begins with this line, where `more` reads on
 abbrev pub opening_at : (more : List ℕ → Opening) → (taken : ℕ) → (bytes : List ℕ)
     → NextLine → Opening
-opening_at more taken bytes NoLine = record { lines = []; end = Broken why.NoGo taken }
-opening_at more taken bytes (Unreadable cause) = record { lines = []; end = Broken cause taken }
+opening_at more taken bytes NoLine = record { lines = []; end = Broken why.NoGo taken [] }
+opening_at more taken bytes (Unreadable cause rest) =
+    record { lines = []; end = Broken cause taken rest }
 opening_at more taken bytes (Line line rest) =
     if is_go (words line) then record { lines = []; end = Go (taken + line_take bytes) rest }
     else after_line line (more rest)
@@ -71,7 +74,7 @@ opening_at more taken bytes (Line line rest) =
 -- the opening of these bytes, in at most so many lines, where the reader took this many bytes
 -- before
 abbrev pub opening_from : (turns taken : ℕ) → List ℕ → Opening
-opening_from zero taken bytes = record { lines = []; end = Broken why.NoGo taken }
+opening_from zero taken bytes = record { lines = []; end = Broken why.NoGo taken [] }
 opening_from (suc turns) taken bytes =
     opening_at (opening_from turns (taken + line_take bytes)) taken bytes (next_line taken bytes)
 
@@ -79,11 +82,11 @@ opening_from (suc turns) taken bytes =
 abbrev pub opening : List ℕ → Opening
 opening input = opening_from (suc (length input)) 0 input
 
--- how a session ends: at the end of the input or at the word `end`, with what is left behind its
--- line, or because the input cannot be read on at this place
+-- how a session ends: at the end of the input or at the word `end`, or because the input cannot be
+-- read on at this place; with what is left
 pub data SessionEnd : Type 0 where
   Ended : (rest : List ℕ) → SessionEnd
-  Stopped : InputEnd → (place : ℕ) → SessionEnd
+  Stopped : InputEnd → (place : ℕ) → (rest : List ℕ) → SessionEnd
 
 -- the next step of a session: it ends, or there is something to do. Then `due` tells how many bytes
 -- are left at least as long as its last byte, the LF of its line or the last one of its body, was
@@ -115,7 +118,8 @@ body_work desc (Some head) body = load_of head (rows_of desc head.feed body)
 
 -- the step at a body of this size, behind its line
 abbrev pub body_step : DescOf → (base due taken : ℕ) → Option Head → (size : ℕ) → NextBody → Step
-body_step desc base due taken head size (Unfinished cause) = Ends (Stopped cause (base + taken))
+body_step desc base due taken head size (Unfinished cause rest) =
+    Ends (Stopped cause (base + taken) rest)
 body_step desc base due taken head size (Body body rest) =
     Does (body_work desc head body) due (taken + size) rest
 
@@ -128,12 +132,12 @@ order_step desc base due taken order.End rest = Ends (Ended rest)
 order_step desc base due taken order.Refused rest = Does work.Refused due taken rest
 order_step desc base due taken (order.Body head size) rest =
     body_step desc base (body_due due size rest) taken head size (next_body taken size rest)
-order_step desc base due taken order.BigBody rest = Ends (Stopped why.Big (base + taken))
+order_step desc base due taken order.BigBody rest = Ends (Stopped why.Big (base + taken) rest)
 
 -- the step at a line
 abbrev pub line_step : DescOf → (base taken : ℕ) → (bytes : List ℕ) → NextLine → Step
 line_step desc base taken bytes NoLine = Ends (Ended [])
-line_step desc base taken bytes (Unreadable cause) = Ends (Stopped cause (base + taken))
+line_step desc base taken bytes (Unreadable cause rest) = Ends (Stopped cause (base + taken) rest)
 line_step desc base taken bytes (Line line rest) =
     order_step desc base (line_due bytes) (taken + line_take bytes) (order_of desc line) rest
 
@@ -170,21 +174,21 @@ abbrev pub session : DescOf → (base : ℕ) → List ℕ → Session
 session desc base input = session_from desc base (suc (length input)) 0 input
 
 -- the reading of an input: the description cannot be read to its `go` line, it is not accepted,
--- or a session follows it
+-- or a session follows it; where none follows, with what is left
 pub data Script : Type 0 where
-  Unopened : InputEnd → (place : ℕ) → Script
-  Misdescribed : (line : ℕ) → Script
+  Unopened : InputEnd → (place : ℕ) → (rest : List ℕ) → Script
+  Misdescribed : (line : ℕ) → (rest : List ℕ) → Script
   Served : DescOf → Session → Script
 
 -- the script behind a description, at its `go` line
 abbrev pub script_behind : Described → (base : ℕ) → List ℕ → Option ℕ → Script
 script_behind before base rest None = Served before.desc (session before.desc base rest)
-script_behind before base rest (Some line) = Misdescribed line
+script_behind before base rest (Some line) = Misdescribed line rest
 
 -- the script that an opening begins
 abbrev pub script_at : Described → OpeningEnd → Script
 script_at before (Go taken rest) = script_behind before taken rest before.bad
-script_at before (Broken cause place) = Unopened cause place
+script_at before (Broken cause place rest) = Unopened cause place rest
 
 -- the reading of an input
 abbrev pub reading : List ℕ → Script

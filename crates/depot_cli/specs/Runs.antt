@@ -26,12 +26,12 @@ asks_text word = bytes_eq word (codes "--help") || bytes_eq word (codes "-h")
 -- the status of a session that ended so
 abbrev pub session_status : Session → SessionEnd → Status
 session_status session (Ended _) = if has_refused session.items then status.Refused else status.Done
-session_status session (Stopped why place) = status.Input why place
+session_status session (Stopped why place _) = status.Input why place
 
 -- the status that a reading gives to a run which no device and no want of memory ends
 abbrev pub status_of : Script → Status
-status_of (Unopened why place) = status.Input why place
-status_of (Misdescribed line) = status.BadDescription line cause.Later
+status_of (Unopened why place _) = status.Input why place
+status_of (Misdescribed line _) = status.BadDescription line cause.Later
 status_of (Served desc session) = session_status session session.end
 
 -- a status is the reading's, but for those of the devices and of memory, and of the command line
@@ -57,25 +57,33 @@ code_of status.ReadFault = 5
 code_of status.WriteFault = 6
 code_of status.Memory = 9
 
--- the run read its input to its end: the exit code is 0 or 1
-abbrev pub is_whole : Status → Bool
-is_whole status = nat_le (code_of status) 1
+-- the run came to the end of its reading: no device, want of memory or command line ended it
+abbrev pub is_read : Status → Bool
+is_read status.Done = true
+is_read status.Refused = true
+is_read (status.BadDescription _ _) = true
+is_read (status.Input _ _) = true
+is_read status.Usage = false
+is_read status.ReadFault = false
+is_read status.WriteFault = false
+is_read status.Memory = false
 
 -- the replies to all items of a reading
 abbrev pub replies_of : Script → List ℕ
-replies_of (Unopened _ _) = []
-replies_of (Misdescribed _) = []
+replies_of (Unopened _ _ _) = []
+replies_of (Misdescribed _ _) = []
 replies_of (Served desc session) = replies desc 1 [] session.items
 
 -- what the end of a session leaves of its input
 abbrev pub left_behind : SessionEnd → List ℕ
 left_behind (Ended rest) = rest
-left_behind (Stopped _ _) = []
+left_behind (Stopped _ _ rest) = rest
 
--- what a reading leaves of its input where it ended well: what follows the `end` line, or nothing
+-- what a reading leaves of its input: what follows the `end` line, the `go` line of a bad
+-- description or what could not be read on, or nothing
 abbrev pub left_of : Script → List ℕ
-left_of (Unopened _ _) = []
-left_of (Misdescribed _) = []
+left_of (Unopened _ _ rest) = rest
+left_of (Misdescribed _ rest) = rest
 left_of (Served desc session) = left_behind session.end
 
 -- the reply to the item of a session with this number, from 0; and nothing where there is none
@@ -107,14 +115,14 @@ pub record GainsTaken (desc : DescOf) (session : Session)
 
 -- what a run that was ended by want of memory or by the sink has gained
 abbrev pub GainsFrontOf : Script → (got_before got_now : Option (List ℕ)) → Type 0
-GainsFrontOf (Unopened _ _) got_before got_now = Appends got_before got_now []
-GainsFrontOf (Misdescribed _) got_before got_now = Appends got_before got_now []
+GainsFrontOf (Unopened _ _ _) got_before got_now = Appends got_before got_now []
+GainsFrontOf (Misdescribed _ _) got_before got_now = Appends got_before got_now []
 GainsFrontOf (Served desc session) got_before got_now = GainsFront desc session got_before got_now
 
 -- what a run that was ended by the source has gained
 abbrev pub GainsTakenOf : Script → (got_before got_now left_now : Option (List ℕ)) → Type 0
-GainsTakenOf (Unopened _ _) got_before got_now left_now = Appends got_before got_now []
-GainsTakenOf (Misdescribed _) got_before got_now left_now = Appends got_before got_now []
+GainsTakenOf (Unopened _ _ _) got_before got_now left_now = Appends got_before got_now []
+GainsTakenOf (Misdescribed _ _) got_before got_now left_now = Appends got_before got_now []
 GainsTakenOf (Served desc session) got_before got_now left_now =
     GainsTaken desc session got_before got_now left_now
 
@@ -132,12 +140,12 @@ Gains script before now left status.WriteFault = GainsFrontOf script before now
 Gains script before now left status.Memory = GainsFrontOf script before now
 
 -- a run that this reading stands for: its status is the reading's; the sink has gained what that
--- says; and where it read its input to its end, the source has left what the reading leaves
+-- says; and where it came to the end of its reading, the source has left what that leaves
 pub record IsRun (script : Script) (got_before got_now left_now : Option (List ℕ))
     (ended : Status) : Type 0 where
   pub told : IsStatusOf script ended
   pub gains : Gains script got_before got_now left_now ended
-  pub left : is_whole ended ≡ true → left_now ≡ Some (left_of script)
+  pub left : is_read ended ≡ true → left_now ≡ Some (left_of script)
 
 -- a fault of a device is told only where its count rose in the run
 pub record HasRunCauses (reads_before reads_now writes_before writes_now : ℕ)

@@ -29,7 +29,8 @@ abbrev pub IsNextLine : NextLine → (due place : ℕ) → (line : List ℕ)
 IsNextLine next due place line left (Ok true) =
     (rest : List ℕ) × (next ≡ Line line rest) × IsLeft left rest
 IsNextLine next due place line left (Ok false) = (next ≡ NoLine) × IsLeft left []
-IsNextLine next due place line left (Err (Input why at)) = (next ≡ Unreadable why) × (at ≡ place)
+IsNextLine next due place line left (Err (Input why at)) =
+    (rest : List ℕ) × (next ≡ Unreadable why rest) × IsLeft left rest × (at ≡ place)
 IsNextLine next due place line left (Err ReadFault) = IsLeftOf left due
 IsNextLine next due place line left (Err Memory) = ⊥
 
@@ -44,21 +45,22 @@ abbrev pub IsNextBody : NextBody → (size place : ℕ) → (bytes body : List �
 IsNextBody next size place bytes body left (Ok _) =
     (rest : List ℕ) × (next ≡ Body body rest) × IsLeft left rest
 IsNextBody next size place bytes body left (Err (Input why at)) =
-    (next ≡ Unfinished why) × (at ≡ place)
+    (rest : List ℕ) × (next ≡ Unfinished why rest) × IsLeft left rest × (at ≡ place)
 IsNextBody next size place bytes body left (Err ReadFault) = IsBodyUndone size bytes left
 IsNextBody next size place bytes body left (Err Memory) = ⊤
 
 -- no byte behind the `go` line was taken
 abbrev pub IsBeforeGo : OpeningEnd → Option (List ℕ) → Type 0
 IsBeforeGo (Go taken rest) left = IsLeftOf left (length rest)
-IsBeforeGo (Broken why place) left = ⊤
+IsBeforeGo (Broken why place rest) left = ⊤
 
 -- the answer for an opening: what its lines describe, and what was taken and is left behind it
 abbrev pub IsOpening : Opening → (taken : ℕ) → (left : Option (List ℕ))
     → Result Described ScriptFault → Type 0
 IsOpening opening taken left (Ok before) = (rest : List ℕ)
     × (before ≡ described opening.lines) × (opening.end ≡ Go taken rest) × IsLeft left rest
-IsOpening opening taken left (Err (Input why place)) = opening.end ≡ Broken why place
+IsOpening opening taken left (Err (Input why place)) =
+    (rest : List ℕ) × (opening.end ≡ Broken why place rest) × IsLeft left rest
 IsOpening opening taken left (Err ReadFault) = IsBeforeGo opening.end left
 IsOpening opening taken left (Err Memory) = ⊤
 
@@ -80,7 +82,8 @@ abbrev pub IsStep : Step → (taken : ℕ) → (left : Option (List ℕ))
     → Result (Option Work) ScriptFault → Type 0
 IsStep step taken left (Ok (Some work)) = IsDone step taken left work
 IsStep step taken left (Ok None) = (rest : List ℕ) × (step ≡ Ends (Ended rest)) × IsLeft left rest
-IsStep step taken left (Err (Input why place)) = step ≡ Ends (Stopped why place)
+IsStep step taken left (Err (Input why place)) =
+    (rest : List ℕ) × (step ≡ Ends (Stopped why place rest)) × IsLeft left rest
 IsStep step taken left (Err ReadFault) = IsUndone step left
 IsStep step taken left (Err Memory) = ⊤
 

@@ -1,7 +1,7 @@
 -- The run is that of the session behind the description, where that was read.
-use Rattle.std.proofs.Common.{sym, ◌∙◌}
+use Rattle.std.proofs.Common.{sym, ◌∙◌, Some}
 use Rattle.std.proofs.lemmas.Option.{IfSome_then}
-use Rattle.depot_cli.proofs.RunLemmas.{IsRun-opened, IsRun-unopened}
+use Rattle.depot_cli.proofs.RunLemmas.{IsRun-misdescribed, IsRun-opened, IsRun-unopened}
 use Rattle.depot_cli.proofs.run.trial.Goals as goal
 
 pub returns-clause-run : goal.returns-clause-run
@@ -16,3 +16,9 @@ returns-in-Err-clause-run g c =
     rw c.status_of.ensures (IfSome_then _ c.in-Err.ensures.answer (λ input breaks.
     IsRun-unopened input (g.O.Sink.bytes_got c.args.sink.now)
     (g.S.Source.bytes_left c.open.new.source) c.in-Err.fault breaks))
+
+pub returns-in-Some-clause-run : goal.returns-in-Some-clause-run
+returns-in-Some-clause-run g c =
+    IfSome_then _ c.in-Ok.ensures.answer (λ input opened.
+    IsRun-misdescribed input c.in-Ok.opened.0 c.in-Ok.opened.1 c.in-Some.line _ _ opened
+    (sym c.bad.ensures.exact ∙ c.in-Some.is))

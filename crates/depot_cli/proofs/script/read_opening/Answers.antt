@@ -1,11 +1,11 @@
 -- Each line is read by what the lemmas on openings say of it.
-use Rattle.std.proofs.Common.{◌≡◌, ◌+◌, List, ℕ, false, arith, sym, ◌∙◌, ap, refl}
+use Rattle.std.proofs.Common.{◌≡◌, ◌+◌, List, ℕ, false, true, arith, sym, ◌∙◌, ap, refl}
 use Rattle.std.proofs.lemmas.Option.{IfSome_then}
 use Rattle.table_desc.specs.Words.{words}
 use Rattle.table_desc.specs.Grammar.{Described, is_go, with_line}
 use Rattle.depot_cli.specs.Reading.{opening}
 use Rattle.depot_cli.proofs.KnownLemmas.{Err-passed}
-use Rattle.depot_cli.proofs.OpeningLemmas.{HasOpened-fault, HasOpened-init, HasOpened-line, lines-with_line}
+use Rattle.depot_cli.proofs.OpeningLemmas.{HasOpened-fault, HasOpened-go, HasOpened-init, HasOpened-line, lines-with_line}
 use Rattle.depot_cli.proofs.script.read_opening.Goals as goal
 
 pub lines-init : goal.lines-init
@@ -48,3 +48,15 @@ returns-in_err-take_line-clause-answer g c =
     (g.S.Source.bytes_left c.lines.reader.source)
     (g.S.Source.bytes_left c.take_line.new.reader.source) c.in_err-take_line.field-0.0 opened
     (omega arith) c.in_err-take_line.ensures.answer))
+
+pub returns-then-branch-clause-answer : goal.returns-then-branch-clause-answer
+returns-then-branch-clause-answer g c =
+    let goes : is_go (words c.take_line.new.reader.line) ≡ true =
+    ap (λ (line : List ℕ). is_go (words line)) (sym c.line.ensures)
+    ∙ sym c.in_ok-is_go_line.ensures ∙ c.if-branch.true in
+    IfSome_then _ c.lines.invariant.opened (λ bytes opened.
+    HasOpened-go (opening bytes) c.lines.draft c.lines.reader.taken c.take_line.new.reader.taken
+    (0 + c.lines.reader.taken) c.take_line.new.reader.line c.in_ok-take_line.field-0
+    (g.S.Source.bytes_left c.lines.reader.source)
+    (g.S.Source.bytes_left c.take_line.new.reader.source) opened c.if-not-branch.false
+    c.in_ok-take_line.ensures.answer c.in_ok-take_line.ensures.taken goes)
