@@ -167,8 +167,8 @@ opening_fault whole turns taken taken_now place rest line lines left_now (Input 
     is_place answer = (
       answer.0,
       ap (λ (opening : Opening). opening.end)
-      (sym (opening_next whole lines turns taken rest (Unreadable why answer.0) answer.1 goes_on))
-      ∙ ap (λ (place : ℕ). Broken why place answer.0) (sym (answer.3 ∙ is_place)),
+          (sym (opening_next whole lines turns taken rest (Unreadable why answer.0) answer.1 goes_on))
+          ∙ ap (λ (place : ℕ). Broken why place answer.0) (sym (answer.3 ∙ is_place)),
       answer.2,
     )
 opening_fault whole turns taken taken_now place rest line lines left_now ReadFault goes_on is_place
@@ -247,12 +247,11 @@ HasOpened-go whole before taken taken_now place line there left left_now opened 
     ap (λ (opening : Opening). after_lines opened.lines opening)
     (sym (opening_at-go more taken opened.rest line answered.0 goes))
     ∙ opening_next whole opened.lines opened.turns taken opened.rest (Line line answered.0)
-    answered.1 opened.goes_on in
-    (
+    answered.1 opened.goes_on in (
       answered.0,
       opened.describes ∙ ap (λ (lines : List (List ℕ)). described lines)
-      (sym (append-nil opened.lines) ∙ ap (λ (opening : Opening). opening.lines) ended),
+          (sym (append-nil opened.lines) ∙ ap (λ (opening : Opening). opening.lines) ended),
       sym (ap (λ (opening : Opening). opening.end) ended)
-      ∙ ap (λ (taken : ℕ). Go taken answered.0) (sym count),
+          ∙ ap (λ (taken : ℕ). Go taken answered.0) (sym count),
       answered.2,
     )

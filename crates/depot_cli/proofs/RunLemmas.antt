@@ -151,7 +151,7 @@ status_of-complete script (status.BadDescription line cause) rb rn wb wn told ca
 status_of-complete script (status.Input why place) rb rn wb wn told causes no_read no_write
     command = inl (sym told)
 status_of-complete script status.ReadFault rb rn wb wn told causes no_read no_write command =
-    absurd (no_read (causes.read refl))
+    absurd (no_read causes.read)
 status_of-complete script status.WriteFault rb rn wb wn told causes no_read no_write command =
-    absurd (no_write (causes.write refl))
+    absurd (no_write causes.write)
 status_of-complete script status.Memory rb rn wb wn told causes no_read no_write command = inr refl

@@ -40,11 +40,11 @@ IsStep-at_line : (desc : DescOf) (base taken taken_now : ℕ) (bytes line : List
     → IsNextLine (next_line taken bytes) (line_due bytes) (base + taken) line left (Err fault)
     → IsStep (step_of desc base taken bytes) taken_now left (Err fault)
 IsStep-at_line desc base taken taken_now bytes line left (Input why place) answer = (
-      answer.0,
-      ap (λ (next : NextLine). line_step desc base taken bytes next) answer.1
+  answer.0,
+  ap (λ (next : NextLine). line_step desc base taken bytes next) answer.1
       ∙ ap (λ (place : ℕ). Ends (Stopped why place answer.0)) (sym answer.3),
-      answer.2,
-    )
+  answer.2,
+)
 IsStep-at_line desc base taken taken_now bytes line left ReadFault answer =
     IsUndone-line desc base taken bytes left answer
 IsStep-at_line desc base taken taken_now bytes line left Memory answer = absurd answer
@@ -94,12 +94,12 @@ IsStep-at_body : (desc : DescOf) (base due taken taken_now size : ℕ) (head : O
     → IsStep (order_step desc base due taken (order.Body head size) bytes) taken_now left
     (Err fault)
 IsStep-at_body desc base due taken taken_now size head bytes body left (Input why place) answer = (
-      answer.0,
-      ap (λ (next : NextBody).
+  answer.0,
+  ap (λ (next : NextBody).
       body_step desc base (body_due due size bytes) taken head size next) answer.1
       ∙ ap (λ (place : ℕ). Ends (Stopped why place answer.0)) (sym answer.3),
-      answer.2,
-    )
+  answer.2,
+)
 IsStep-at_body desc base due taken taken_now size head bytes body left ReadFault answer =
     body_step-undone desc base (body_due due size bytes) taken size head
     (next_body taken size bytes) left (IsLeftOf-body due size bytes left answer)

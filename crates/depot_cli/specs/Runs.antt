@@ -7,6 +7,8 @@ use Rattle.std.specs.Str.{bytes_eq}
 use Rattle.depot_cli.specs.declared.run.status.Status.{Status}
 use Rattle.depot_cli.specs.declared.run.status.Status.TheVariants as status
 use Rattle.depot_cli.specs.declared.run.status.DescCause.TheVariants as cause
+use Rattle.depot_cli.specs.declared.run.status.InputEnd.{InputEnd}
+use Rattle.depot_cli.specs.declared.run.status.InputEnd.TheVariants as why
 use Rattle.depot_cli.specs.Reading.{Script, Unopened, Misdescribed, Served, Session, SessionEnd, Ended, Stopped}
 use Rattle.table_desc.specs.Descriptions.{DescOf}
 use Rattle.depot_cli.specs.ScriptCalls.{IsLeftOf}
@@ -147,22 +149,38 @@ pub record IsRun (script : Script) (got_before got_now left_now : Option (List �
   pub gains : Gains script got_before got_now left_now ended
   pub left : is_read ended ≡ true → left_now ≡ Some (left_of script)
 
--- a fault of a device is told only where its count rose in the run
+-- the count of the source's faults rose if the run tells of one, and stayed otherwise
+abbrev pub IsReadCause : (before now : ℕ) → Status → Type 0
+IsReadCause before now status.ReadFault = Rose before now
+IsReadCause before now _ = now ≡ before
+
+-- the count of the sink's faults rose if the run tells of one, and stayed otherwise
+abbrev pub IsWriteCause : (before now : ℕ) → Status → Type 0
+IsWriteCause before now status.WriteFault = Rose before now
+IsWriteCause before now _ = now ≡ before
+
+-- a run tells of a fault of a device exactly where that counted one
 pub record HasRunCauses (reads_before reads_now writes_before writes_now : ℕ)
     (ended : Status) : Type 0 where
-  pub read : ended ≡ status.ReadFault → Rose reads_before reads_now
-  pub write : ended ≡ status.WriteFault → Rose writes_before writes_now
+  pub read : IsReadCause reads_before reads_now ended
+  pub write : IsWriteCause writes_before writes_now ended
 
--- how a session may end: with neither of these
+-- whether an input ended before its `go` line
+abbrev pub lacks_go : InputEnd → Bool
+lacks_go why.NoGo = true
+lacks_go _ = false
+
+-- whether a run came to no session: its words or its description are not accepted, or its input
+-- has no `go` line
+abbrev pub is_unserved : Status → Bool
+is_unserved status.Usage = true
+is_unserved (status.BadDescription _ _) = true
+is_unserved (status.Input why _) = lacks_go why
+is_unserved _ = false
+
+-- how a session may end
 abbrev pub EndsSession : Status → Type 0
-EndsSession status.Usage = ⊥
-EndsSession (status.BadDescription _ _) = ⊥
-EndsSession status.Done = ⊤
-EndsSession status.Refused = ⊤
-EndsSession (status.Input _ _) = ⊤
-EndsSession status.ReadFault = ⊤
-EndsSession status.WriteFault = ⊤
-EndsSession status.Memory = ⊤
+EndsSession ended = is_unserved ended ≡ false
 
 -- where no device fails and the command line is one, a run has the status of its reading, but for
 -- want of memory

@@ -5,14 +5,14 @@ pub mod laws;
 pub mod session;
 pub mod status;
 
-ghost use Rattle.std.specs.Prelude.{◌≡◌, ◌↔◌, ◌≤◌, IfSome, IfOk, false, map, string_bytes};
+ghost use Rattle.std.specs.Prelude.{◌≡◌, ◌↔◌, ◌≤◌, IfSome, IfOk, true, false, map, string_bytes};
 ghost use Rattle.std.specs.Io.KnownBytes.{Keeps};
 ghost use Rattle.depot_io.specs.Causes.{Rose};
 ghost use Rattle.depot_io.specs.Lines.{LIMIT};
 ghost use Rattle.table_desc.specs.Served.{IsServed};
 ghost use Rattle.depot_cli.specs.Reading.{Served, opening, reading, session};
 ghost use Rattle.depot_cli.specs.ScriptCalls.{IsOpened, IsScriptCause};
-ghost use Rattle.depot_cli.specs.Runs.{EndsSession, HasRunCauses, IsRun, is_trial};
+ghost use Rattle.depot_cli.specs.Runs.{EndsSession, HasRunCauses, IsRun, is_trial, is_unserved};
 
 use crate::run::session::{serve, status_of};
 use crate::run::status::{DescCause, Status};
@@ -35,7 +35,8 @@ pub fn run<S: Source, O: Sink>(
     sink: &mut O,
 ) -> Status
     ensures usage { (result ≡ Status.Usage) ↔ (is_trial (map string_bytes words.now) ≡ false) }
-    ensures untouched { result ≡ Status.Usage → (source.new ≡ source.old) × (sink.new ≡ sink.old) }
+    ensures unread { result ≡ Status.Usage → source.new ≡ source.old }
+    ensures untouched { is_unserved result ≡ true → sink.new ≡ sink.old }
     ensures run { IfSome (S.bytes_left source.old) (λ input.
         IsRun (reading input) (O.bytes_got sink.old) (O.bytes_got sink.new)
         (S.bytes_left source.new) result) }
@@ -62,6 +63,7 @@ fn is_trial(words: &[String]) -> bool
 /// Runs a script over a journal of its own, that begins empty and ends with the run.
 fn trial<S: Source, O: Sink>(alloc: Global, source: &mut S, sink: &mut O) -> Status
     ensures others { result ≡ Status.Usage → ⊥ }
+    ensures untouched { is_unserved result ≡ true → sink.new ≡ sink.old }
     ensures run { IfSome (S.bytes_left source.old) (λ input.
         IsRun (reading input) (O.bytes_got sink.old) (O.bytes_got sink.new)
         (S.bytes_left source.new) result) }

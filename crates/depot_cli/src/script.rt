@@ -3,14 +3,15 @@
 pub mod order;
 pub mod work;
 
-ghost use Rattle.std.specs.Prelude.{◌≡◌, ◌+◌, ◌≤◌, ◌<◌, length, IfSome, IfOk, OnOk, OnSome, Ok, true};
+ghost use Rattle.std.specs.Prelude.{◌≡◌, ◌+◌, ◌≤◌, ◌<◌, length, IfSome, IfOk, IfErr, OnOk, OnSome, Ok, true};
 ghost use Rattle.depot_io.specs.Lines.{LIMIT, line_take};
 ghost use Rattle.table_desc.specs.Words.{words};
 ghost use Rattle.table_desc.specs.Served.{IsServed};
 ghost use Rattle.table_desc.specs.Grammar.{is_go};
 ghost use Rattle.depot_cli.specs.Orders.{BODY_LIMIT};
 ghost use Rattle.depot_cli.specs.Reading.{line_due, next_line, next_body, body_work as work_of_body, step_of, opening};
-ghost use Rattle.depot_cli.specs.ScriptCalls.{IsAnswerable, IsNextLine, IsNextBody, IsOpening, IsStep, IsScriptCause};
+ghost use Rattle.depot_cli.specs.Runs.{EndsSession};
+ghost use Rattle.depot_cli.specs.ScriptCalls.{status_of_fault, IsAnswerable, IsNextLine, IsNextBody, IsOpening, IsStep, IsScriptCause};
 
 use crate::run::status::InputEnd;
 use crate::script::order::{Head, Order, read_order};
@@ -53,6 +54,7 @@ pub fn take_line<S: Source>(base: u64, reader: &mut LineReader<S>) -> Result<boo
         IfOk result (λ _. reader.new.taken ≡ reader.old.taken + line_take bytes)) }
     ensures more { IfOk result (λ there. there ≡ true → reader.old.taken < reader.new.taken) }
     ensures limit { reader.new.taken ≤ LIMIT }
+    ensures others { IfErr result (λ fault. EndsSession (status_of_fault fault)) }
     ensures cause { IsScriptCause (S.faults reader.old.source) (S.faults reader.new.source) result }
     ensures place { S.place reader.new.source ≡ S.place reader.old.source }
 {
@@ -88,6 +90,7 @@ fn take_body<S: Source>(
     ensures taken { OnOk result (reader.new.taken ≡ reader.old.taken + size) }
     ensures len { OnOk result (length body.new.items ≡ size) }
     ensures limit { reader.new.taken ≤ LIMIT }
+    ensures others { IfErr result (λ fault. EndsSession (status_of_fault fault)) }
     ensures cause { IsScriptCause (S.faults reader.old.source) (S.faults reader.new.source) result }
     ensures place { S.place reader.new.source ≡ S.place reader.old.source }
 {
@@ -145,6 +148,7 @@ pub fn next_work<S: Source>(
     ensures in_range { IfOk result (λ work. IfSome work IsAnswerable) }
     ensures more { IfOk result (λ work. OnSome work (reader.old.taken < reader.new.taken)) }
     ensures limit { reader.new.taken ≤ LIMIT }
+    ensures others { IfErr result (λ fault. EndsSession (status_of_fault fault)) }
     ensures cause { IsScriptCause (S.faults reader.old.source) (S.faults reader.new.source) result }
     ensures place { S.place reader.new.source ≡ S.place reader.old.source }
 {

@@ -131,8 +131,8 @@ impl Journal {
         }
     }
 
-    /// Adds an install of a partition, whose rows count all entries up to here. Where there is no
-    /// memory the entries are as before.
+    /// Adds an install of a partition, whose rows count all entries up to here. Without memory the
+    /// journal is as before, and the rows are dropped.
     pub fn install(&mut self, key: Key, rows: Rows) -> Result<(), Memory>
         requires few { number_in (latest_in self.old.versions key) ≤ length self.old.entries }
         ensures entries { OnOk result (self.new.entries ≡ with_install self.old.entries key) }
@@ -143,6 +143,7 @@ impl Journal {
               at = length self.old.entries;
               rows = rows;
             }) else latest_in self.old.versions other)) }
+        ensures err { OnErr result (self.new ≡ self.old) }
     {
         let at = self.len();
         let number = self.number(key) + 1;

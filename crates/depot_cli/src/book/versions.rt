@@ -1,6 +1,6 @@
 //! The latest version of each partition of a view that was computed, with its rows.
 
-ghost use Rattle.std.specs.Prelude.{Some, ◌≡◌, [], OnOk, option_copied, if◌then◌else◌};
+ghost use Rattle.std.specs.Prelude.{Some, ◌≡◌, [], OnErr, OnOk, option_copied, if◌then◌else◌};
 ghost use Rattle.std.specs.Ordering.{is_eq};
 ghost use Rattle.table_desc.specs.declared.table.Key.{Key as KeyOf};
 ghost use Rattle.depot_cli.specs.KeptJournals.{key_cmp, latest_in};
@@ -45,10 +45,11 @@ impl Versions {
         self.latest.get(&key)
     }
 
-    /// Makes a version the latest one of its partition.
+    /// Makes a version the latest one of its partition. Without memory nothing changes.
     pub fn put(&mut self, key: Key, version: Version) -> Result<(), Memory>
         ensures found { OnOk result ((other : KeyOf) → latest_in self.new other
             ≡ (if is_eq (key_cmp key other) then Some version else latest_in self.old other)) }
+        ensures err { OnErr result (self.new ≡ self.old) }
     {
         match self.latest.insert(key, version) {
             Ok(_) => Ok(()),
