@@ -1,3 +1,4 @@
 pub mod PieceLemmas
 pub mod LineLemmas
 pub mod WalkLemmas
+pub mod RoomLemmas

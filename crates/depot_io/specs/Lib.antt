@@ -1,6 +1,6 @@
 pub mod Causes
 pub mod Puts
-pub mod Kept
+pub mod InMemory
 pub mod Reading
 pub mod Lines
-pub mod Ahead
+pub mod Adapters

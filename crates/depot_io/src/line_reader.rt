@@ -3,11 +3,14 @@
 //! Lengths and counts are in bytes. A line ends with an LF, and one CR before it is dropped too;
 //! the last one may end with the input instead, and is then taken as it stands. A body is as many
 //! bytes as its reader asks for. A reader takes at most 1,099,511,627,776 bytes in all.
-ghost use Rattle.std.specs.Prelude.{◌≡◌, ◌+◌, ◌-◌, ◌^◌, ◌≤◌, ◌<◌, ◌↔◌, [], ◌++◌, length, take, Ok, Err, IfOk, OnOk, OnErr, IfErr, IfSome, IfNone, vec_capacity, option_to_list};
+ghost use Rattle.std.specs.Prelude.{◌≡◌, ◌+◌, ◌^◌, ◌≤◌, ◌<◌, [], length, Ok, Err};
+ghost use Rattle.std.specs.Prelude.{IfOk, OnErr, IfErr, IfSome, IfNone, vec_capacity, option_to_list};
 ghost use Rattle.std.specs.Io.BufRead.{strip_last};
 ghost use Rattle.std.specs.Io.KnownBytes.{Consumes, Keeps, IsAtEnd};
 ghost use Rattle.depot_io.specs.Causes.{HasCause};
-ghost use Rattle.depot_io.specs.Lines.{LIMIT, line_len, IsLineAnswer, TakesLine, TakesSome, IsLineFault, IsBodyAnswer, TakesBody, HoldsCount, IsShort, IsBodyFault, Takes, HasReadCause, WalksLine};
+ghost use Rattle.depot_io.specs.Lines.{IsLineOutcome, ReadsLine, IsBodyOutcome, ReadsBody};
+ghost use Rattle.depot_io.specs.Lines.{HasReadCause, WalksLine, FillsPiece};
+ghost use Rattle.depot_io.specs.Reading.{ReadsOn};
 
 use crate::{Failed, Memory, Source};
 use std::alloc::Global;
@@ -16,7 +19,7 @@ use std::marker::Model;
 /// How many bytes a reader takes at most.
 const MOST_TAKEN: u64 = 1_099_511_627_776;
 
-/// The longest line and the byte behind it.
+/// The longest line and the byte after it.
 const MOST_OF_LINE: usize = 4_097;
 
 /// What stands next in the input.
@@ -82,7 +85,7 @@ fn next_byte<S: Source>(source: &mut S) -> Result<Option<u8>, Failed>
     ensures kept { OnErr result (Keeps (S.bytes_left source.old) (S.bytes_left source.new)) }
     ensures end { IfOk result (λ byte. IfNone byte (IsAtEnd (S.bytes_left source.new))) }
     ensures cause { HasCause (S.faults source.old) (S.faults source.new) result }
-    ensures place { S.place source.new ≡ S.place source.old }
+    ensures loan { S.loan source.new ≡ S.loan source.old }
 {
     let mut piece = [0];
     if source.take(&mut piece)? == 0 {
@@ -104,7 +107,7 @@ fn take_line<S: Source>(
         taken.old taken.new most line.new.items result }
     ensures capacity { vec_capacity line.new ≡ vec_capacity line.old }
     ensures cause { HasCause (S.faults source.old) (S.faults source.new) result }
-    ensures place { S.place source.new ≡ S.place source.old }
+    ensures loan { S.loan source.new ≡ S.loan source.old }
 {
     line.clear();
     for _ in 0..most {
@@ -137,14 +140,10 @@ fn fill_piece<S: Source>(
     taken: &mut u64,
 ) -> (usize, Result<(), Failed>)
     requires fits { taken.old + length piece.old < 2 ^ 64 }
-    ensures within { result.0 ≤ length piece.new }
-    ensures took { Consumes (S.bytes_left source.old) (S.bytes_left source.new)
-        (take result.0 piece.new) }
-    ensures counted { taken.new ≡ taken.old + result.0 }
-    ensures end { OnOk result.1 (result.0 < length piece.new → IsAtEnd (S.bytes_left source.new)) }
-    ensures short { OnErr result.1 (result.0 < length piece.new) }
+    ensures fill { FillsPiece (S.bytes_left source.old) (S.bytes_left source.new)
+        taken.old taken.new piece.new result.0 result.1 }
     ensures cause { HasCause (S.faults source.old) (S.faults source.new) result.1 }
-    ensures place { S.place source.new ≡ S.place source.old }
+    ensures loan { S.loan source.new ≡ S.loan source.old }
 {
     let mut filled = 0;
     while filled < piece.len() {
@@ -181,21 +180,12 @@ impl<S: Source> LineReader<S> {
     /// Takes the next line, without its LF and one CR before it. It is shown by
     /// [`LineReader::line`] until the next call. No memory is taken.
     pub fn next_line(&mut self) -> Result<Line, LineFault>
-        ensures answer { IfSome (S.bytes_left self.old.source) (λ bytes.
-            IsLineAnswer bytes self.old.taken self.new.line result) }
-        ensures line { IfSome (S.bytes_left self.old.source) (λ bytes.
-            TakesLine bytes self.old.taken self.new.taken result) }
-        ensures takes { Takes (S.bytes_left self.old.source) (S.bytes_left self.new.source)
-            (self.new.taken - self.old.taken) }
-        ensures later { self.old.taken ≤ self.new.taken }
-        ensures end { result ≡ Ok Line.End → IsAtEnd (S.bytes_left self.new.source) }
-        ensures len { IfOk result (λ line. line_len line ≡ length self.new.line) }
-        ensures more { IfOk result (λ line. TakesSome line self.old.taken self.new.taken) }
-        ensures limit { self.new.taken ≤ LIMIT }
-        ensures long { (result ≡ Err LineFault.Long) ↔ (self.new.taken ≡ LIMIT) }
-        ensures others { IfErr result IsLineFault }
+        ensures exact { IfSome (S.bytes_left self.old.source) (λ bytes.
+            ReadsLine bytes self.old.taken self.new.taken self.new.line result) }
+        ensures answer { IsLineOutcome (S.bytes_left self.new.source)
+            self.old.taken self.new.taken self.new.line result }
+        ensures kept { ReadsOn S.bytes_left S.loan self.old self.new }
         ensures cause { HasReadCause (S.faults self.old.source) (S.faults self.new.source) result }
-        ensures place { S.place self.new.source ≡ S.place self.old.source }
     {
         let most = (MOST_TAKEN - self.taken).min(MOST_OF_LINE as u64) as usize;
         let stop = take_line(&mut self.source, &mut self.line, &mut self.taken, most);
@@ -222,25 +212,15 @@ impl<S: Source> LineReader<S> {
     /// Replaces `into` by the next `n` bytes. After a fault it holds those of them that were taken;
     /// want of memory leaves it as it was.
     pub fn take_exact(&mut self, n: u64, into: &mut Vec<u8>) -> Result<(), LineFault>
-        ensures answer { IfSome (S.bytes_left self.old.source) (λ bytes.
-            IsBodyAnswer bytes self.old.taken n result) }
-        ensures body { IfSome (S.bytes_left self.old.source) (λ bytes.
-            TakesBody bytes (self.new.taken - self.old.taken) into.new.items result) }
-        ensures takes { Takes (S.bytes_left self.old.source) (S.bytes_left self.new.source)
-            (self.new.taken - self.old.taken) }
-        ensures count { OnOk result (self.new.taken ≡ self.old.taken + n) }
-        ensures short { IsShort self.old.taken self.new.taken n result }
-        ensures held { HoldsCount (self.new.taken - self.old.taken) into.new.items result }
-        ensures memory { result ≡ Err LineFault.Memory →
+        ensures exact { IfSome (S.bytes_left self.old.source) (λ bytes.
+            ReadsBody bytes self.old.taken self.new.taken n into.new.items result) }
+        ensures answer { IsBodyOutcome (S.bytes_left self.new.source)
+            self.old.taken self.new.taken n into.new.items result }
+        ensures err { result ≡ Err LineFault.Memory →
             (self.new ≡ self.old) × (into.new.items ≡ into.old.items) }
-        ensures cut { result ≡ Err LineFault.Cut → IsAtEnd (S.bytes_left self.new.source) }
-        ensures later { self.old.taken ≤ self.new.taken }
-        ensures limit { self.new.taken ≤ LIMIT }
-        ensures long { (result ≡ Err LineFault.Long) ↔ (self.new.taken ≡ LIMIT) }
-        ensures others { IfErr result IsBodyFault }
         ensures line { self.new.line ≡ self.old.line }
+        ensures kept { ReadsOn S.bytes_left S.loan self.old self.new }
         ensures cause { HasReadCause (S.faults self.old.source) (S.faults self.new.source) result }
-        ensures place { S.place self.new.source ≡ S.place self.old.source }
     {
         let most = n.min(MOST_TAKEN - self.taken) as usize;
         if into.resize(most, 0).is_err() {
@@ -274,7 +254,7 @@ impl<S: Source> LineReader<S> {
         self.taken
     }
 
-    /// Gives the source back, behind the last byte taken.
+    /// Gives the source back, as it stands after the last byte taken.
     pub fn into_source(self) -> S
         ensures { result ≡ self.source }
     {

@@ -4,7 +4,7 @@ ghost use Rattle.std.specs.declared.option.Option.{Option};
 ghost use Rattle.std.specs.Borrow.{GName};
 ghost use Rattle.std.specs.Io.{ReadsAtMost};
 ghost use Rattle.std.specs.Io.KnownBytes.{ReadConsumes};
-ghost use Rattle.depot_io.specs.Causes.{HasCause};
+ghost use Rattle.depot_io.specs.Causes.{HasCause, Rose, next_count};
 
 /// A call of the outside failed, and did nothing.
 #[derive(Clone, Copy, Debug, PartialEq, Eq)]
@@ -12,15 +12,15 @@ pub struct Failed;
 
 /// What bytes are taken from, in order.
 pub trait Source {
-    /// The bytes that are still to come, where the source tells them.
+    /// The bytes that are still to come, if the source tells them.
     ghost bytes_left: { Self → Option (List ℕ) };
 
     /// How often a call has failed.
     ghost faults: { Self → ℕ };
 
-    /// The name of the reference, where the source is a lent one. It ties what a reader took to
+    /// The name of the reference, if the source is a lent one. It ties what a reader took to
     /// what the lender gets back.
-    ghost place: { Self → Option GName };
+    ghost loan: { Self → Option GName };
 
     /// Takes up to as many bytes as the piece has room for, into its front. For a piece with
     /// room, 0 is the end of input.
@@ -28,7 +28,7 @@ pub trait Source {
         ensures bound { ReadsAtMost result into.new }
         ensures taken { ReadConsumes (bytes_left self.old) (bytes_left self.new) result into.new }
         ensures cause { HasCause (faults self.old) (faults self.new) result }
-        ensures place { place self.new ≡ place self.old };
+        ensures loan { loan self.new ≡ loan self.old };
 }
 
 impl<S: Source> Source for &mut S {
@@ -36,9 +36,18 @@ impl<S: Source> Source for &mut S {
 
     ghost faults = { λ source. S.faults source.now };
 
-    ghost place = { λ source. Some source.ghost_name };
+    ghost loan = { λ source. Some source.ghost_name };
 
     fn take(&mut self, into: &mut [u8]) -> Result<usize, Failed> {
         Source::take(&mut **self, into)
     }
+}
+
+/// Counts a fault, and answers it.
+pub(crate) fn count_fault(faults: &mut u64) -> Failed
+    ensures exact { faults.new ≡ next_count faults.old }
+    ensures rose { Rose faults.old faults.new }
+{
+    *faults = faults.saturating_add(1);
+    Failed
 }

@@ -17,5 +17,5 @@ loop-filled-preserved g c =
           (Consumes-trans _ _ _ _ _ c.loop-filled.invariant.took c.in-Ok.ensures.taken.0);
       counted = search rules;
       kept = search rules;
-      place = search rules;
+      loan = search rules;
     }

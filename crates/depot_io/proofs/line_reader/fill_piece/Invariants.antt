@@ -10,7 +10,7 @@ invariant-loop-filled g l = record {
       (take l.filled l.piece);
   counted : l.taken ≡ l.initial.taken + l.filled;
   kept : g.S.Source.faults l.source ≡ g.S.Source.faults l.initial.source;
-  place : g.S.Source.place l.source ≡ g.S.Source.place l.initial.source;
+  loan : g.S.Source.loan l.source ≡ g.S.Source.loan l.initial.source;
 }
 
 abbrev pub decreases-loop-filled : goal.decreases-loop-filled

@@ -13,5 +13,5 @@ invariant-loop g l = record {
   unbroken : span l.line.items ≡ length l.line.items;
   capacity : vec_capacity l.line ≡ vec_capacity l.initial.line;
   kept : g.S.Source.faults l.source ≡ g.S.Source.faults l.initial.source;
-  place : g.S.Source.place l.source ≡ g.S.Source.place l.initial.source;
+  loan : g.S.Source.loan l.source ≡ g.S.Source.loan l.initial.source;
 }

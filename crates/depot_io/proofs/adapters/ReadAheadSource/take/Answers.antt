@@ -3,7 +3,7 @@ use Rattle.std.proofs.Common.{◌≡◌, ◌+◌, ◌-◌, ◌≤◌, ◌<◌, �
 use Rattle.std.proofs.lemmas.List.{length-take}
 use Rattle.std.proofs.KnownBytes.{prepend_known-read}
 use Rattle.depot_io.proofs.PieceLemmas.{slice_range-copied, none-copied}
-use Rattle.depot_io.proofs.standard.StdSourceSource.take.Goals as goal
+use Rattle.depot_io.proofs.adapters.ReadAheadSource.take.Goals as goal
 
 pub returns-clause-taken : goal.returns-clause-taken
 returns-clause-taken g c =

@@ -2,7 +2,7 @@
 use Rattle.std.proofs.Common.{◌≡◌, ◌+◌, ◌≤◌, length, drop, take, ◌++◌, sym, ◌∙◌, ap, arith}
 use Rattle.std.proofs.lemmas.List.{take_rest, drop_all, length-take}
 use Rattle.depot_io.proofs.PieceLemmas.{slice_range-copied, none-copied}
-use Rattle.depot_io.proofs.memory.NeverSourceSource.take.Goals as goal
+use Rattle.depot_io.proofs.in_memory.NeverSourceSource.take.Goals as goal
 
 pub returns-clause-taken : goal.returns-clause-taken
 returns-clause-taken c =

@@ -1,17 +1,25 @@
 //! Sources and a sink in memory, whose bytes are told.
-ghost use Rattle.std.specs.Prelude.{◌≡◌, ◌<◌, ◌+◌, ◌⊎◌, ◌↔◌, [], length, Contains, Some, None, IsErr, IfOk, OnOk, OnErr, min};
+ghost use Rattle.std.specs.Prelude.{◌≡◌, ◌<◌, [], length, Some, None, IfOk, min};
 ghost use Rattle.std.specs.Io.{ReadsAtMost, WritesAtMost};
 ghost use Rattle.std.specs.Io.KnownBytes.{ReadConsumes, WriteAppends};
 ghost use Rattle.depot_io.specs.Causes.{HasCause};
-ghost use Rattle.depot_io.specs.Kept.{next_count};
+ghost use Rattle.depot_io.specs.Puts.{TakesWithin};
+ghost use Rattle.depot_io.specs.InMemory.{PutsListed, TakesListed, told_room};
 
+use crate::source::count_fault;
 use crate::{Failed, Sink, Source};
-use std::alloc::Global;
+use std::alloc::{AllocError, Global};
 use std::marker::Model;
 
 /// There was no memory for the call.
 #[derive(Clone, Copy, Debug, PartialEq, Eq)]
 pub struct Memory;
+
+impl From<AllocError> for Memory {
+    fn from(_error: AllocError) -> Memory {
+        Memory
+    }
+}
 
 /// A source in memory that never fails.
 #[derive(Drop)]
@@ -32,7 +40,7 @@ impl Model for NeverSource {
 
 impl NeverSource {
     pub fn new(bytes: Vec<u8>) -> NeverSource
-        ensures { result ≡ bytes.items }
+        ensures exact { result ≡ bytes.items }
     {
         NeverSource { bytes, at: 0 }
     }
@@ -43,7 +51,7 @@ impl Source for NeverSource {
 
     ghost faults = { λ _. 0 };
 
-    ghost place = { λ _. None };
+    ghost loan = { λ _. None };
 
     fn take(&mut self, into: &mut [u8]) -> Result<usize, Failed>
         ensures bound { ReadsAtMost result into.new }
@@ -69,9 +77,9 @@ pub struct VecSource {
 }
 
 impl Model for VecSource {
-    ghost use Rattle.depot_io.specs.Kept.{Giving};
+    ghost use Rattle.depot_io.specs.InMemory.{SourceState};
 
-    ghost Value = { Giving };
+    ghost Value = { SourceState };
 
     ghost view = { λ inside. record {
       left = inside.source;
@@ -84,7 +92,7 @@ impl Model for VecSource {
 impl VecSource {
     /// Calls of `take` are numbered from 1.
     pub fn new(bytes: Vec<u8>, fails: Vec<u64>) -> VecSource
-        ensures { result ≡ record {
+        ensures exact { result ≡ record {
           left = bytes.items;
           fails = fails.items;
           calls = 0;
@@ -105,22 +113,17 @@ impl Source for VecSource {
 
     ghost faults = { λ source. source.faults };
 
-    ghost place = { λ _. None };
+    ghost loan = { λ _. None };
 
     fn take(&mut self, into: &mut [u8]) -> Result<usize, Failed>
         ensures bound { ReadsAtMost result into.new }
         ensures taken { ReadConsumes (Some self.old.left) (Some self.new.left) result into.new }
         ensures cause { HasCause self.old.faults self.new.faults result }
-        ensures failed { IsErr result ↔ Contains self.old.fails (next_count self.old.calls) }
-        ensures count { IfOk result (λ count.
-            count ≡ min (length into.old) (length self.old.left)) }
-        ensures calls { self.new.calls ≡ next_count self.old.calls }
-        ensures fails { self.new.fails ≡ self.old.fails }
+        ensures exact { TakesListed self.old self.new (length into.old) result }
     {
         self.calls = self.calls.saturating_add(1);
         if self.fails.contains(&self.calls) {
-            self.faults = self.faults.saturating_add(1);
-            return Err(Failed);
+            return Err(count_fault(&mut self.faults));
         }
         self.source.take(into)
     }
@@ -138,9 +141,9 @@ pub struct VecSink {
 
 impl Model for VecSink {
     ghost use Rattle.std.specs.Prelude.{◌≤◌, ◌+◌, vec_len, vec_capacity};
-    ghost use Rattle.depot_io.specs.Kept.{Getting};
+    ghost use Rattle.depot_io.specs.InMemory.{SinkState};
 
-    ghost Value = { Getting };
+    ghost Value = { SinkState };
 
     ghost view = { λ inside. record {
       got = inside.bytes.items;
@@ -154,9 +157,9 @@ impl Model for VecSink {
 }
 
 impl VecSink {
-    /// Takes the room at once, in bytes. Calls of `put` are numbered from 1.
+    /// Has room for so many bytes in all. Calls of `put` are numbered from 1.
     pub fn new(alloc: Global, room: usize, fails: Vec<u64>) -> Result<VecSink, Memory>
-        ensures ok { IfOk result (λ sink. sink ≡ record {
+        ensures exact { IfOk result (λ sink. sink ≡ record {
           got = [];
           room = room;
           fails = fails.items;
@@ -164,11 +167,8 @@ impl VecSink {
           faults = 0;
         }) }
     {
-        let Ok(bytes) = Vec::with_capacity(alloc, room) else {
-            return Err(Memory);
-        };
         Ok(VecSink {
-            bytes,
+            bytes: Vec::with_capacity(alloc, room)?,
             room,
             fails,
             calls: 0,
@@ -178,7 +178,7 @@ impl VecSink {
 
     /// The bytes that it got, the first one first.
     pub fn bytes(&self) -> &[u8]
-        ensures { result.now ≡ self.now.got }
+        ensures exact { result.now ≡ self.now.got }
     {
         &self.bytes
     }
@@ -187,25 +187,22 @@ impl VecSink {
 impl Sink for VecSink {
     ghost bytes_got = { λ sink. Some sink.got };
 
+    ghost room = { λ sink. told_room sink.fails sink.room };
+
     ghost faults = { λ sink. sink.faults };
 
     fn put(&mut self, bytes: &[u8]) -> Result<usize, Failed>
         ensures bound { WritesAtMost result bytes.now }
         ensures some { IfOk result (λ count. 0 < length bytes.now → 0 < count) }
         ensures put { WriteAppends (Some self.old.got) (Some self.new.got) result bytes.now }
+        ensures room { TakesWithin (told_room self.old.fails self.old.room)
+            (told_room self.new.fails self.new.room) bytes.now result }
         ensures cause { HasCause self.old.faults self.new.faults result }
-        ensures whole { IfOk result (λ count. count ≡ length bytes.now) }
-        ensures failed { IsErr result ↔ (Contains self.old.fails (next_count self.old.calls)
-            ⊎ self.old.room < length bytes.now) }
-        ensures room { OnOk result (self.new.room + length bytes.now ≡ self.old.room) }
-        ensures kept { OnErr result (self.new.room ≡ self.old.room) }
-        ensures calls { self.new.calls ≡ next_count self.old.calls }
-        ensures fails { self.new.fails ≡ self.old.fails }
+        ensures exact { PutsListed self.old self.new bytes.now result }
     {
         self.calls = self.calls.saturating_add(1);
         if self.fails.contains(&self.calls) || self.room < bytes.len() {
-            self.faults = self.faults.saturating_add(1);
-            return Err(Failed);
+            return Err(count_fault(&mut self.faults));
         }
         // It stands within the capacity, so this takes no memory.
         let _ = self.bytes.extend_from_slice(bytes);
