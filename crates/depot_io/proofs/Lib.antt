@@ -1,4 +1,5 @@
-pub mod PieceLemmas
 pub mod LineLemmas
-pub mod WalkLemmas
+pub mod PieceLemmas
+pub mod ReadingLemmas
 pub mod RoomLemmas
+pub mod WalkLemmas

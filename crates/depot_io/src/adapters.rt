@@ -29,7 +29,7 @@ pub struct ReadAhead<R> {
 }
 
 impl<R: Read> ReadAhead<R> {
-    pub fn new(reader: R) -> ReadAhead<R>
+    pub fn over(reader: R) -> ReadAhead<R>
         ensures left { ⟦<ReadAhead<R> as Source>⟧.bytes_left result ≡ R.remaining reader }
         ensures faults { ⟦<ReadAhead<R> as Source>⟧.faults result ≡ 0 }
     {
@@ -45,15 +45,15 @@ impl<R: Read> ReadAhead<R> {
     /// Reads straight into a piece, past the bytes that stand ready, of which there are none.
     fn pass(&mut self, into: &mut [u8]) -> Result<usize, Failed>
         requires none { self.old.at ≡ self.old.end }
-        ensures bound { ReadsAtMost result into.new }
-        ensures taken { ReadConsumes
+        ensures within { ReadsAtMost result into.new }
+        ensures left { ReadConsumes
             (ahead_left self.old.ahead self.old.at self.old.end (R.remaining self.old.reader))
             (ahead_left self.new.ahead self.new.at self.new.end (R.remaining self.new.reader))
             result into.new }
         ensures cause { HasCause self.old.faults self.new.faults result }
     {
         match self.reader.read(into) {
-            Ok(count) => Ok(count),
+            Ok(read) => Ok(read),
             Err(_) => Err(count_fault(&mut self.faults)),
         }
     }
@@ -110,7 +110,7 @@ pub struct PutTo<W> {
 }
 
 impl<W: Write> PutTo<W> {
-    pub fn new(writer: W) -> PutTo<W>
+    pub fn over(writer: W) -> PutTo<W>
         ensures got { ⟦<PutTo<W> as Sink>⟧.bytes_got result ≡ W.contents writer }
         ensures faults { ⟦<PutTo<W> as Sink>⟧.faults result ≡ 0 }
     {
@@ -132,7 +132,7 @@ impl<W: Write> Sink for PutTo<W> {
         match self.writer.write(bytes) {
             // A write that takes nothing would never end.
             Ok(0) => Err(count_fault(&mut self.faults)),
-            Ok(count) => Ok(count),
+            Ok(written) => Ok(written),
             Err(_) => Err(count_fault(&mut self.faults)),
         }
     }

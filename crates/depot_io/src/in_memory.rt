@@ -54,8 +54,8 @@ impl Source for NeverSource {
     ghost loan = { λ _. None };
 
     fn take(&mut self, into: &mut [u8]) -> Result<usize, Failed>
-        ensures bound { ReadsAtMost result into.new }
-        ensures taken { ReadConsumes (Some self.old) (Some self.new) result into.new }
+        ensures within { ReadsAtMost result into.new }
+        ensures left { ReadConsumes (Some self.old) (Some self.new) result into.new }
         ensures cause { HasCause 0 0 result }
         ensures exact { result ≡ Ok (min (length into.old) (length self.old)) }
     {
@@ -116,8 +116,8 @@ impl Source for VecSource {
     ghost loan = { λ _. None };
 
     fn take(&mut self, into: &mut [u8]) -> Result<usize, Failed>
-        ensures bound { ReadsAtMost result into.new }
-        ensures taken { ReadConsumes (Some self.old.left) (Some self.new.left) result into.new }
+        ensures within { ReadsAtMost result into.new }
+        ensures left { ReadConsumes (Some self.old.left) (Some self.new.left) result into.new }
         ensures cause { HasCause self.old.faults self.new.faults result }
         ensures exact { TakesListed self.old self.new (length into.old) result }
     {
@@ -192,9 +192,9 @@ impl Sink for VecSink {
     ghost faults = { λ sink. sink.faults };
 
     fn put(&mut self, bytes: &[u8]) -> Result<usize, Failed>
-        ensures bound { WritesAtMost result bytes.now }
+        ensures within { WritesAtMost result bytes.now }
         ensures some { IfOk result (λ count. 0 < length bytes.now → 0 < count) }
-        ensures put { WriteAppends (Some self.old.got) (Some self.new.got) result bytes.now }
+        ensures gained { WriteAppends (Some self.old.got) (Some self.new.got) result bytes.now }
         ensures room { TakesWithin (told_room self.old.fails self.old.room)
             (told_room self.new.fails self.new.room) bytes.now result }
         ensures cause { HasCause self.old.faults self.new.faults result }

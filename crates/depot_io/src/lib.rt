@@ -18,7 +18,7 @@ pub use in_memory::{Memory, NeverSource, VecSink, VecSource};
 pub use line_reader::{Line, LineFault, LineReader};
 pub use sink::{Sink, WriteFault, put_all};
 pub use source::{Failed, Source};
-pub use standard::{StdSink, StdSource};
+pub use standard::{Printer, StdSink, StdSource};
 
 #[cfg(test)]
 mod tests;

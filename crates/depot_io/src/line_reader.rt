@@ -80,7 +80,7 @@ impl<S> Model for LineReader<S> {
 
 /// Takes one byte, or none at the end of input.
 fn next_byte<S: Source>(source: &mut S) -> Result<Option<u8>, Failed>
-    ensures taken { IfOk result (λ byte.
+    ensures left { IfOk result (λ byte.
         Consumes (S.bytes_left source.old) (S.bytes_left source.new) (option_to_list byte)) }
     ensures kept { OnErr result (Keeps (S.bytes_left source.old) (S.bytes_left source.new)) }
     ensures end { IfOk result (λ byte. IfNone byte (IsAtEnd (S.bytes_left source.new))) }

@@ -26,9 +26,9 @@ pub trait Sink {
     /// Puts as many of the bytes as it takes at once, from their front, and at least one if
     /// there is one. It takes all of them if they fit the room that it tells.
     fn put(&mut self, bytes: &[u8]) -> Result<usize, Failed>
-        ensures bound { WritesAtMost result bytes.now }
+        ensures within { WritesAtMost result bytes.now }
         ensures some { IfOk result (λ count. 0 < length bytes.now → 0 < count) }
-        ensures put { WriteAppends (bytes_got self.old) (bytes_got self.new) result bytes.now }
+        ensures gained { WriteAppends (bytes_got self.old) (bytes_got self.new) result bytes.now }
         ensures room { TakesWithin (room self.old) (room self.new) bytes.now result }
         ensures cause { HasCause (faults self.old) (faults self.new) result };
 }

@@ -25,8 +25,8 @@ pub trait Source {
     /// Takes up to as many bytes as the piece has room for, into its front. For a piece with
     /// room, 0 is the end of input.
     fn take(&mut self, into: &mut [u8]) -> Result<usize, Failed>
-        ensures bound { ReadsAtMost result into.new }
-        ensures taken { ReadConsumes (bytes_left self.old) (bytes_left self.new) result into.new }
+        ensures within { ReadsAtMost result into.new }
+        ensures left { ReadConsumes (bytes_left self.old) (bytes_left self.new) result into.new }
         ensures cause { HasCause (faults self.old) (faults self.new) result }
         ensures loan { loan self.new ≡ loan self.old };
 }

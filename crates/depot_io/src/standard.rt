@@ -16,10 +16,12 @@ pub struct StdSource<'a, R: Input> {
 
 impl<'a, R: Input> StdSource<'a, R> {
     pub fn new(rt: &'a R) -> StdSource<'a, R>
+        ensures left { (reader : R.Reader) ×
+            (⟦<StdSource<'static, R> as Source>⟧.bytes_left result ≡ R.Reader.remaining reader) }
         ensures faults { ⟦<StdSource<'static, R> as Source>⟧.faults result ≡ 0 }
     {
         StdSource {
-            source: ReadAhead::new(rt.reader()),
+            source: ReadAhead::over(rt.reader()),
             of: PhantomData,
         }
     }
@@ -39,7 +41,7 @@ impl<R: Input> Source for StdSource<'_, R> {
 
 /// What the runtime prints to, as a writer: each write is one call of it.
 #[derive(Drop)]
-struct Printer<'a, R: Print> {
+pub struct Printer<'a, R: Print> {
     rt: &'a R,
 }
 
@@ -54,29 +56,12 @@ impl<R: Print> Write for Printer<'_, R> {
 }
 
 /// Standard output.
-#[derive(Drop)]
-pub struct StdSink<'a, R: Print> {
-    sink: PutTo<Printer<'a, R>>,
-}
+pub type StdSink<'a, R> = PutTo<Printer<'a, R>>;
 
-impl<'a, R: Print> StdSink<'a, R> {
+impl<'a, R: Print> PutTo<Printer<'a, R>> {
     pub fn new(rt: &'a R) -> StdSink<'a, R>
-        ensures faults { ⟦<StdSink<'static, R> as Sink>⟧.faults result ≡ 0 }
+        ensures faults { ⟦<PutTo<Printer<'static, R>> as Sink>⟧.faults result ≡ 0 }
     {
-        StdSink {
-            sink: PutTo::new(Printer { rt }),
-        }
-    }
-}
-
-impl<R: Print> Sink for StdSink<'_, R> {
-    ghost bytes_got = { λ sink. ⟦<PutTo<Printer<'static, R>> as Sink>⟧.bytes_got sink.sink };
-
-    ghost room = { λ _. None };
-
-    ghost faults = { λ sink. ⟦<PutTo<Printer<'static, R>> as Sink>⟧.faults sink.sink };
-
-    fn put(&mut self, bytes: &[u8]) -> Result<usize, Failed> {
-        self.sink.put(bytes)
+        PutTo::over(Printer { rt })
     }
 }

@@ -1,8 +1,10 @@
 use crate::{
-    Failed, Line, LineFault, LineReader, Memory, NeverSource, Sink, Source, StdSink, StdSource,
-    VecSink, VecSource, WriteFault, put_all,
+    Failed, Line, LineFault, LineReader, Memory, NeverSource, PutTo, ReadAhead, Sink, Source,
+    StdSink, StdSource, VecSink, VecSource, WriteFault, put_all,
 };
 use std::alloc::Global;
+use std::io;
+use std::io::Write;
 use std::test::Fail;
 
 fn reader_of(alloc: Global, bytes: &[u8]) -> Result<LineReader<NeverSource>, Fail> {
@@ -12,7 +14,7 @@ fn reader_of(alloc: Global, bytes: &[u8]) -> Result<LineReader<NeverSource>, Fai
     }
 }
 
-/// The lines of an input, one after the other, each with a `|` behind it.
+/// The lines of an input, one after the other, each with a `|` after it.
 fn lines_of(alloc: Global, bytes: &[u8]) -> Result<Vec<u8>, Fail> {
     let mut reader = reader_of(alloc, bytes)?;
     let mut seen = Vec::new(alloc);
@@ -65,87 +67,111 @@ fn a_line_has_at_most_4_096_bytes(rt: HostRuntime) -> Result<(), Fail> {
 }
 
 #[test]
-fn a_body_is_cut_by_the_end(rt: HostRuntime) -> Result<(), Fail> {
+fn a_body_ends_at_a_fault_or_the_end(rt: HostRuntime) -> Result<(), Fail> {
     let alloc = rt.alloc();
-    let mut reader = reader_of(alloc, b"two 2\nab\nlast")?;
-    let mut body = Vec::new(alloc);
-    assert_eq!(rt; reader.next_line(), Ok(Line::Text { len: 5 }));
-    assert_eq!(rt; reader.taken(), 6);
-    assert_eq!(rt; reader.take_exact(3, &mut body), Ok(()));
-    assert_eq!(rt; body.as_slice(), b"ab\n".as_slice());
-    assert_eq!(rt; reader.line(), b"two 2".as_slice());
-    assert_eq!(rt; reader.take_exact(5, &mut body), Err(LineFault::Cut));
-    assert_eq!(rt; body.as_slice(), b"last".as_slice());
-    assert_eq!(rt; reader.next_line(), Ok(Line::End));
-    let mut source = reader.into_source();
-    assert_eq!(rt; source.take(&mut [0; 4]), Ok(0));
-    Ok(())
-}
-
-#[test]
-fn a_source_fails_at_each_call_in_turn(rt: HostRuntime) -> Result<(), Fail> {
-    let alloc = rt.alloc();
-    for call in 1..8 {
+    // Which call fails, how many bytes are asked for, and what of them is there.
+    let cases: [(u64, u64, Result<(), LineFault>, &[u8]); 5] = [
+        (0, 4, Ok(()), b"body"),
+        (0, 0, Ok(()), b""),
+        (0, 5, Err(LineFault::Cut), b"body"),
+        (4, 4, Err(LineFault::ReadFault), b""),
+        (5, 5, Err(LineFault::ReadFault), b"body"),
+    ];
+    for (call, size, want, held) in cases {
         let fails = vec![in alloc; call; 1]?;
         let mut source = VecSource::new(b"ab\nbody".to_vec(alloc)?, fails);
         let Ok(mut reader) = LineReader::new(alloc, &mut source) else {
             return Err(Fail::from(Memory));
         };
-        let line = reader.next_line();
-        if call <= 3 {
-            assert_eq!(rt; line, Err(LineFault::ReadFault));
-            assert_eq!(rt; reader.taken(), call - 1);
-        } else {
-            let mut body = Vec::new(alloc);
-            let outcome = reader.take_exact(4, &mut body);
-            assert_eq!(rt; outcome.is_err(), call == 4);
-            assert_eq!(rt; body.len(), if call == 4 { 0 } else { 4 });
-        }
+        let mut body = Vec::new(alloc);
+        assert_eq!(rt; reader.next_line(), Ok(Line::Text { len: 2 }));
+        assert_eq!(rt; reader.take_exact(size, &mut body), want);
+        assert_eq!(rt; body.as_slice(), held);
+        assert_eq!(rt; reader.line(), b"ab".as_slice());
+        assert_eq!(rt; reader.taken(), 3 + held.len() as u64);
+        let rest = reader.into_source().take(&mut [0; 8]);
+        assert_eq!(rt; rest, Ok(4 - held.len()));
     }
     Ok(())
 }
 
 #[test]
-fn a_sink_fails_at_each_call_in_turn(rt: HostRuntime) -> Result<(), Fail> {
+fn a_sink_takes_what_fits(rt: HostRuntime) -> Result<(), Fail> {
     let alloc = rt.alloc();
-    let cases: [(u64, &[u8]); 4] = [
-        (1, b"twothree"),
-        (2, b"onethree"),
-        (3, b"onetwo"),
-        (4, b"onetwothree"),
+    // The room, which call fails, and which words are put of `one`, `two` and `three`.
+    let cases: [(usize, u64, [Result<(), WriteFault>; 3], &[u8]); 5] = [
+        (11, 0, [Ok(()), Ok(()), Ok(())], b"onetwothree"),
+        (10, 0, [Ok(()), Ok(()), Err(WriteFault)], b"onetwo"),
+        (11, 1, [Err(WriteFault), Ok(()), Ok(())], b"twothree"),
+        (11, 3, [Ok(()), Ok(()), Err(WriteFault)], b"onetwo"),
+        (
+            2,
+            0,
+            [Err(WriteFault), Err(WriteFault), Err(WriteFault)],
+            b"",
+        ),
     ];
-    for (call, want) in cases {
-        let fails = vec![in alloc; call; 1]?;
-        let mut sink = VecSink::new(alloc, 11, fails)?;
-        for (number, word) in [b"one".as_slice(), b"two".as_slice(), b"three".as_slice()]
-            .iter()
-            .enumerate()
-        {
-            let outcome = put_all(&mut sink, word);
-            assert_eq!(rt; outcome.is_err(), number as u64 + 1 == call);
-        }
-        assert_eq!(rt; sink.bytes(), want);
+    for (room, call, wants, got) in cases {
+        let mut sink = VecSink::new(alloc, room, vec![in alloc; call; 1]?)?;
+        assert_eq!(rt; put_all(&mut sink, b"one"), wants[0]);
+        assert_eq!(rt; put_all(&mut sink, b"two"), wants[1]);
+        assert_eq!(rt; put_all(&mut &mut sink, b"three"), wants[2]);
+        assert_eq!(rt; sink.bytes(), got);
     }
     Ok(())
 }
 
-#[test]
-fn a_sink_has_no_room_left(rt: HostRuntime) -> Result<(), Fail> {
-    let alloc = rt.alloc();
-    let mut sink = VecSink::new(alloc, 3, Vec::new(alloc))?;
-    assert_eq!(rt; sink.put(b"ab"), Ok(2));
-    assert_eq!(rt; put_all(&mut &mut sink, b"cd"), Err(WriteFault));
-    assert_eq!(rt; sink.put(b"cd"), Err(Failed));
-    assert_eq!(rt; sink.put(b"c"), Ok(1));
-    assert_eq!(rt; sink.bytes(), b"abc".as_slice());
-    Ok(())
+/// Takes two bytes of a write, and nothing once it has five or more.
+#[derive(Drop)]
+struct Short {
+    got: Vec<u8>,
+}
+
+impl Write for Short {
+    fn write(&mut self, bytes: &[u8]) -> io::Result<usize> {
+        let count = if self.got.len() < 5 {
+            bytes.len().min(2)
+        } else {
+            0
+        };
+        self.got.extend_from_slice(&bytes[..count])?;
+        Ok(count)
+    }
+
+    fn flush(&mut self) -> io::Result<()> {
+        Ok(())
+    }
 }
 
 #[test]
-fn standard_streams_are_adapted(rt: HostRuntime) -> Result<(), Fail> {
+fn readers_and_writers_are_adapted(rt: HostRuntime) -> Result<(), Fail> {
+    let alloc = rt.alloc();
+    // 10,000 bytes are taken by three at a time, and then at once.
+    let bytes = vec![in alloc; b'a'; 10_000]?;
+    let mut source = ReadAhead::over(bytes.as_slice());
+    let mut piece = [0; 3];
+    for _ in 0..300 {
+        assert_eq!(rt; source.take(&mut piece), Ok(3));
+    }
+    let mut rest = vec![in alloc; 0; 10_000]?;
+    assert_eq!(rt; source.take(&mut rest), Ok(8_192 - 900));
+    assert_eq!(rt; source.take(&mut rest), Ok(10_000 - 8_192));
+    assert_eq!(rt; source.take(&mut rest), Ok(0));
+
+    let mut got = Vec::new(alloc);
+    assert_eq!(rt; put_all(&mut PutTo::over(&mut got), b"all"), Ok(()));
+    assert_eq!(rt; got.as_slice(), b"all".as_slice());
+    let mut short = Short {
+        got: Vec::new(alloc),
+    };
+    let mut sink = PutTo::over(&mut short);
+    assert_eq!(rt; sink.put(b"abc"), Ok(2));
+    assert_eq!(rt; put_all(&mut sink, b"cdefg"), Err(WriteFault));
+    assert_eq!(rt; sink.put(b""), Ok(0));
+    assert_eq!(rt; sink.put(b"h"), Err(Failed));
+    assert_eq!(rt; short.got.as_slice(), b"abcdef".as_slice());
+
     let _source = StdSource::new(&rt);
-    let mut sink = StdSink::new(&rt);
-    put_all(&mut sink, b"")?;
-    put_all(&mut sink, b"put\n")?;
+    put_all(&mut StdSink::new(&rt), b"put\n")?;
     Ok(())
 }

@@ -8,13 +8,13 @@ use Rattle.depot_io.proofs.line_reader.fill_piece.Goals as goal
 pub loop-filled-preserved : goal.loop-filled-preserved
 loop-filled-preserved g c =
     let room = length c.loop-filled.piece - c.loop-filled.filled in
-    let fits : c.in-Ok.count ≤ length c.take.new.into = omega (arith, c.in-Ok.ensures.bound) in
+    let fits : c.in-Ok.count ≤ length c.take.new.into = omega (arith, c.in-Ok.ensures.within) in
     record {
       within = rw (same_len_mid c.loop-filled.filled room c.loop-filled.piece c.take.new.into
           (omega arith)) (omega arith);
       took = rw (take-put_mid-add c.loop-filled.filled room c.in-Ok.count c.loop-filled.piece
           c.take.new.into (omega arith) fits)
-          (Consumes-trans _ _ _ _ _ c.loop-filled.invariant.took c.in-Ok.ensures.taken.0);
+          (Consumes-trans _ _ _ _ _ c.loop-filled.invariant.took c.in-Ok.ensures.left.0);
       counted = search rules;
       kept = search rules;
       loan = search rules;

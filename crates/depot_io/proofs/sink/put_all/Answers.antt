@@ -16,7 +16,7 @@ loop-at-init g c = record {
 
 pub loop-at-preserved : goal.loop-at-preserved
 loop-at-preserved g c =
-    let step = rw take_rest at c.in-Ok.ensures.put in
+    let step = rw take_rest at c.in-Ok.ensures.gained in
     record {
       within = search rules;
       put = rw (take-add c.loop-at.at c.in-Ok.count c.args.bytes.now)

@@ -5,8 +5,8 @@ use Rattle.std.proofs.KnownBytes.{prepend_known-read}
 use Rattle.depot_io.proofs.PieceLemmas.{slice_range-copied, none-copied}
 use Rattle.depot_io.proofs.adapters.ReadAheadSource.take.Goals as goal
 
-pub returns-clause-taken : goal.returns-clause-taken
-returns-clause-taken g c =
+pub returns-clause-left : goal.returns-clause-left
+returns-clause-left g c =
     let ready = c.make_ready.new.self in
     let count = c.min-count.result in
     let into = c.args.into.now in

@@ -4,8 +4,8 @@ use Rattle.std.proofs.lemmas.List.{take_rest, drop_all, length-take}
 use Rattle.depot_io.proofs.PieceLemmas.{slice_range-copied, none-copied}
 use Rattle.depot_io.proofs.in_memory.NeverSourceSource.take.Goals as goal
 
-pub returns-clause-taken : goal.returns-clause-taken
-returns-clause-taken c =
+pub returns-clause-left : goal.returns-clause-left
+returns-clause-left c =
     let bytes = c.self.inside.bytes.items in
     let at = c.self.inside.at in
     let count = c.min-count.result in
