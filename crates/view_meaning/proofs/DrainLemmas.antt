@@ -22,7 +22,7 @@ use Rattle.view_meaning.specs.LegalJournals.{MayInstall, IsLegal}
 use Rattle.view_meaning.specs.Drains.{all_view_keys, unsettled, with_install, drained}
 use Rattle.view_meaning.proofs.AmongLemmas.{is_key, is_among, IsBefore, is_key-itself, same-is_key, is_among-behind, is_among-before, is_among-earlier, All-is_among, IsBefore-table, IsBefore-le}
 use Rattle.view_meaning.proofs.OrderLemmas.{AllPairs-front, AllPairs-behind, AllPairs-before}
-use Rattle.view_meaning.proofs.KeyLemmas.{sources_of-parts, sources_of-none, AllPairs-all_view_keys, all_view_keys-not_raw}
+use Rattle.view_meaning.proofs.KeyLemmas.{sources_of-parts, sources_of-none, AllPairs-all_view_keys, all_view_keys-not_raw, all_view_keys-parts}
 use Rattle.view_meaning.proofs.SourceLemmas.{sources_of-earlier}
 use Rattle.view_meaning.proofs.LegalLemmas.{IsLegal-push, MayInstall-last, last_place-le}
 use Rattle.view_meaning.proofs.SettledLemmas.{is_settled-sources, is_stale-settled, sources_of-settled, is_settled-no_sources}
@@ -76,6 +76,12 @@ is_among-done desc journal done rest key split settled =
     ∙ is_among-unsettled desc journal key
     ∙ ap (λ (settled : Bool). not settled && is_among (all_view_keys desc) key) settled)).0
 
+-- what is true of each partition of a view is true of those that are not settled
+All-unsettled : (P : Key → Type 0) (desc : DescOf) (journal : List Entry)
+    → All P (all_view_keys desc) → All P (unsettled desc journal)
+All-unsettled P desc journal =
+    All-filter (λ key. not (is_settled desc journal key)) P (all_view_keys desc)
+
 -- only partitions of views are installed
 is_raw-done : (desc : DescOf) (journal : List Entry) (done rest : List Key)
     → unsettled desc journal ≡ done ++ rest → (key : Key) → is_among done key ≡ true
@@ -83,23 +89,35 @@ is_raw-done : (desc : DescOf) (journal : List Entry) (done rest : List Key)
 is_raw-done desc journal done rest split key among =
     All-is_among (λ (key : Key). is_raw (slice_get desc.tables key.table) ≡ false)
     (unsettled desc journal) key
-    (All-filter (λ key. not (is_settled desc journal key))
-    (λ (key : Key). is_raw (slice_get desc.tables key.table) ≡ false) (all_view_keys desc)
+    (All-unsettled (λ (key : Key). is_raw (slice_get desc.tables key.table) ≡ false) desc journal
     (all_view_keys-not_raw desc))
     (is_among-split desc journal done rest key split
     ∙ or_left (is_among done key) (is_among rest key) among)
 
--- the next one to be installed is not settled before the drain
+-- the next one to be installed is unsettled before the drain
+is_among-next : (desc : DescOf) (journal : List Entry) (done later : List Key) (next : Key)
+    → unsettled desc journal ≡ done ++ next ∷ later → is_among (unsettled desc journal) next ≡ true
+is_among-next desc journal done later next split =
+    is_among-split desc journal done (next ∷ later) next split
+    ∙ or_right (is_among done next) (is_among (next ∷ later) next)
+    (or_left (is_key next next) (is_among later next) (is_key-itself next))
+
+-- so it is not settled
 is_settled-next : (desc : DescOf) (journal : List Entry) (done later : List Key) (next : Key)
     → unsettled desc journal ≡ done ++ next ∷ later → is_settled desc journal next ≡ false
 is_settled-next desc journal done later next split =
-    let among : is_among (unsettled desc journal) next ≡ true =
-    is_among-split desc journal done (next ∷ later) next split
-    ∙ or_right (is_among done next) (is_among (next ∷ later) next)
-    (or_left (is_key next next) (is_among later next) (is_key-itself next)) in
     not-true (is_settled desc journal next)
     ((and_parts (not (is_settled desc journal next)) (is_among (all_view_keys desc) next)
-    (sym (is_among-unsettled desc journal next) ∙ among)).0)
+    (sym (is_among-unsettled desc journal next)
+    ∙ is_among-next desc journal done later next split)).0)
+
+-- and it is a partition
+is_part-next : (desc : DescOf) (journal : List Entry) (done later : List Key) (next : Key)
+    → unsettled desc journal ≡ done ++ next ∷ later → is_part desc next ≡ true
+is_part-next desc journal done later next split =
+    All-is_among (λ key. is_part desc key ≡ true) (unsettled desc journal) next
+    (All-unsettled (λ key. is_part desc key ≡ true) desc journal (all_view_keys-parts desc))
+    (is_among-next desc journal done later next split)
 
 module _ (desc : DescOf) (journal : List Entry) (earlier : HasEarlierSources desc)
     (legal : IsLegal desc journal) where
@@ -207,7 +225,8 @@ module _ (desc : DescOf) (journal : List Entry) (earlier : HasEarlierSources des
       → unsettled desc journal ≡ done ++ next ∷ later
       → MayInstall desc (with_installs journal done) next (length (with_installs journal done))
   MayInstall-next done later next split =
-      MayInstall-last desc (with_installs journal done) next (is_stale-next done later next split)
+      MayInstall-last desc (with_installs journal done) next
+      (is_part-next desc journal done later next split) (is_stale-next done later next split)
       (list_all-from_AllPass (is_settled desc (with_installs journal done)) (sources_of desc next)
       (sources_of-next done later next split))
 

@@ -11,7 +11,7 @@ use Rattle.table_desc.specs.declared.table.Key.{Key}
 use Rattle.table_desc.specs.Descriptions.{DescOf}
 use Rattle.view_meaning.specs.declared.journal.Entry.{Entry}
 use Rattle.view_meaning.specs.declared.journal.Entry.TheVariants as entry
-use Rattle.view_meaning.specs.Partitions.{sources_of}
+use Rattle.view_meaning.specs.Partitions.{is_part, sources_of}
 use Rattle.view_meaning.specs.Staleness.{is_stale, is_settled}
 use Rattle.view_meaning.specs.Versions.{installs, install_places, last_place}
 use Rattle.view_meaning.specs.LegalJournals.{MayInstall, MayFollow, MayAllFollow, IsLegal}
@@ -39,13 +39,14 @@ IsLegal-push desc journal next = MayAllFollow-push desc [] journal next
 
 -- a partition that is stale and whose sources are settled may be installed, with the last place
 pub MayInstall-last : (desc : DescOf) (journal : List Entry) (key : Key)
-    → is_stale desc journal key ≡ true
+    → is_part desc key ≡ true → is_stale desc journal key ≡ true
     → list_all (is_settled desc journal) (sources_of desc key) ≡ true
     → MayInstall desc journal key (length journal)
-MayInstall-last desc journal key stale ready =
+MayInstall-last desc journal key part stale ready =
     let all : take (length journal) journal ≡ journal =
     take_all (length journal) journal (omega arith) in
     record {
+      part = part;
       past = omega arith;
       stale = subst (λ (before : List Entry). is_stale desc before key ≡ true) (sym all) stale;
       ready = subst

@@ -1,19 +1,21 @@
--- Which journals can come about: no number is loaded again, and a partition is installed only where
--- it was stale and its sources were settled.
+-- Which journals can come about: no number is loaded again, and a partition is installed only if it
+-- was stale and its sources were settled.
 use Rattle.std.specs.Prelude.{ℕ, ◌≤◌, ◌≡◌, List, [], ◌∷◌, ◌++◌, true, false, ⊤, length, take, drop}
 use Rattle.std.specs.List.{list_all, list_any}
 use Rattle.table_desc.specs.declared.table.Key.{Key}
 use Rattle.table_desc.specs.Descriptions.{DescOf}
 use Rattle.view_meaning.specs.declared.journal.Entry.{Entry}
 use Rattle.view_meaning.specs.declared.journal.Entry.TheVariants as entry
-use Rattle.view_meaning.specs.Partitions.{sources_of}
+use Rattle.view_meaning.specs.Partitions.{is_part, sources_of}
 use Rattle.view_meaning.specs.Journal.{is_repeat}
 use Rattle.view_meaning.specs.Versions.{installs}
 use Rattle.view_meaning.specs.Staleness.{is_stale, is_settled}
 
--- a partition may be installed behind a journal, with the place of one of its entries: after that
--- entry it was stale and its sources were settled, and it was not installed since
+-- a partition may be installed after a journal, with the place of one of its entries: it shares a
+-- tick with time, after that entry it was stale and its sources were settled, and it was not
+-- installed since
 pub record MayInstall (desc : DescOf) (journal : List Entry) (key : Key) (at : ℕ) : Type 0 where
+  pub part : is_part desc key ≡ true
   pub past : at ≤ length journal
   pub stale : is_stale desc (take at journal) key ≡ true
   pub ready : list_all (is_settled desc (take at journal)) (sources_of desc key) ≡ true
