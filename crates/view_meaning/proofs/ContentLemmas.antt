@@ -1,7 +1,7 @@
 -- The content of a version against the value from scratch: `settled_values`. Content, value and
 -- settledness go down through the tables alike, so they are compared within one depth.
 use Rattle.std.proofs.Common.{◌≡◌, ◌∙◌, ℕ, zero, suc, ◌+◌, List, [], ◌∷◌, ◌++◌, length, take, get_or, refl, sym, ap, map, inl, inr, arith}
-use Rattle.std.specs.Prelude.{Bool, true, false, not, Option, Some, None, All, flat_map, fold, slice_get, if◌then◌else◌}
+use Rattle.std.specs.Prelude.{Bool, true, false, not, Option, Some, None, All, flat_map, slice_get, if◌then◌else◌}
 use Rattle.std.specs.List.{list_all}
 use Rattle.std.specs.Cmp.Lexicographic.{same_text}
 use Rattle.std.proofs.lemmas.Bool.{cases_Bool, and_parts, not-true, not-false}
@@ -31,7 +31,7 @@ use Rattle.view_meaning.specs.Contents.{rows_kept, loads_kept, raw_content, inst
 use Rattle.view_meaning.proofs.FilterLemmas.{filter-not_found}
 use Rattle.view_meaning.proofs.RawLemmas.{cells_where-append, version-raw}
 use Rattle.view_meaning.proofs.SourceLemmas.{All-joined, All-map_agree, flat_map-agree, flat_map-none}
-use Rattle.view_meaning.proofs.VersionLemmas.{version-view}
+use Rattle.view_meaning.proofs.VersionLemmas.{last_place-none, nth_place-last, version-view}
 
 -- a list in front, where a test passes, makes the joined lists longer by it, or is empty
 flat_map-cons_if : {X : Type 0} (test : Bool) (first : List X) (rest : List (List X))
@@ -151,12 +151,6 @@ install_content-no_entry desc rows journal key table first =
     (keys_read desc table.width key.part src)
     (λ source. ap (rows source) (version-no_entry desc source) ∙ first source))
 
--- the last of some numbers is what a fold that keeps the newest ends in
-get_or-last : (first : ℕ) (later : List ℕ)
-    → get_or (first ∷ later) (length later) 0 ≡ fold (λ _ number. number) first later
-get_or-last first [] = refl
-get_or-last first (next ∷ later) = get_or-last next later
-
 -- the latest version of a view's partition is what an install made that counted as many entries as
 -- the last one, also where there was none
 view_content-latest : (desc : DescOf) (rows : Key → ℕ → List (List Cell)) (journal : List Entry)
@@ -174,12 +168,10 @@ view_content-latest desc rows journal key table first = at_places (install_place
     at_places [] none =
         ap (λ (places : List ℕ). view_content desc rows journal key table (length places)) none
         ∙ sym (install_content-no_entry desc rows journal key table first)
-        ∙ ap (λ (places : List ℕ). made (fold (λ _ place. place) 0 places)) (sym none)
+        ∙ ap made (sym (last_place-none journal key none))
     at_places (place ∷ later) some =
         ap (λ (places : List ℕ). view_content desc rows journal key table (length places)) some
-        ∙ ap (λ (places : List ℕ). made (get_or places (length later) 0)) some
-        ∙ ap made (get_or-last place later)
-        ∙ ap (λ (places : List ℕ). made (fold (λ _ place. place) 0 places)) (sym some)
+        ∙ ap made (nth_place-last journal key place later some)
 
 -- where a partition is not stale, its sources have the versions that its last install saw
 versions-seen : (desc : DescOf) (journal : List Entry) (key : Key)
@@ -193,7 +185,7 @@ versions-seen desc journal key fresh =
 
 -- the latest version of a partition holds its value, where the versions of the sources that its
 -- last install read hold theirs
-pub content_over-version : (desc : DescOf) (rows : Key → ℕ → List (List Cell))
+content_over-version : (desc : DescOf) (rows : Key → ℕ → List (List Cell))
     (other : Key → List (List Cell)) (journal : List Entry) (key : Key) (found : Option TableOf)
     → slice_get desc.tables key.table ≡ found → ((source : Key) → rows source 0 ≡ [])
     → All (λ source. rows source (version desc (take (last_place journal key) journal) source)

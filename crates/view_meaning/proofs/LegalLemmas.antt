@@ -1,23 +1,23 @@
--- Legal journals: they grow by one entry that may follow, no install has a place behind them, and
--- the last install of each partition saw its sources settled.
-use Rattle.std.proofs.Common.{◌≡◌, ◌∙◌, ℕ, zero, suc, ◌≤◌, List, [], ◌∷◌, ◌++◌, length, take, get_or, refl, sym, ap, subst, inl, inr, arith}
-use Rattle.std.specs.Prelude.{true, All, fold}
+-- Legal journals: they grow by one entry that may follow, and each install in them is of a view, has
+-- a place among their entries, and saw its sources settled.
+use Rattle.std.proofs.Common.{◌≡◌, ◌∙◌, ℕ, zero, suc, ◌≤◌, List, [], ◌∷◌, ◌++◌, length, take, sym, ap, subst, inl, inr, arith}
+use Rattle.std.specs.Prelude.{true, false, All, fold, slice_get}
 use Rattle.std.specs.List.{list_all, list_any}
-use Rattle.std.proofs.lemmas.Bool.{cases_Bool}
-use Rattle.std.proofs.lemmas.List.{append-nil, append_assoc, length_push, take_all, drop_all}
+use Rattle.std.proofs.lemmas.Bool.{both_ways, cases_Bool, false_from_ne_true}
+use Rattle.std.proofs.lemmas.List.{append-nil, append_assoc, length-append, take_all, take-append-le, drop_all}
 use Rattle.std.proofs.lemmas.List.Elements.{All-nil, All-cons, All-head, All-tail, All-weaker, All-append}
-use Rattle.std.proofs.lemmas.List.Sums.{list_all-from_AllPass}
 use Rattle.table_desc.specs.declared.table.Key.{Key}
 use Rattle.table_desc.specs.Descriptions.{DescOf}
 use Rattle.view_meaning.specs.declared.journal.Entry.{Entry}
 use Rattle.view_meaning.specs.declared.journal.Entry.TheVariants as entry
 use Rattle.view_meaning.specs.Partitions.{is_part, sources_of}
 use Rattle.view_meaning.specs.Staleness.{is_stale, is_settled}
-use Rattle.view_meaning.specs.Versions.{installs, install_places, last_place}
+use Rattle.view_meaning.specs.Versions.{installs, install_places, is_raw, last_place}
 use Rattle.view_meaning.specs.LegalJournals.{MayInstall, MayFollow, MayAllFollow, IsLegal}
 use Rattle.view_meaning.proofs.AmongLemmas.{same-is_key}
-use Rattle.view_meaning.proofs.VersionLemmas.{install_places-append, seen, seen-stay, seen-Install}
-use Rattle.view_meaning.proofs.SettledLemmas.{is_settled-no_entry}
+use Rattle.view_meaning.proofs.KeyLemmas.{sources_of-raw}
+use Rattle.view_meaning.proofs.VersionLemmas.{install_places-append}
+use Rattle.view_meaning.proofs.SettledLemmas.{is_stale-no_sources}
 
 -- one entry more may follow behind those that may
 MayAllFollow-push : (desc : DescOf) (journal entries : List Entry) (next : Entry)
@@ -90,6 +90,82 @@ pub IsLegal-take : (desc : DescOf) (count : ℕ) (journal : List Entry) → IsLe
     → IsLegal desc (take count journal)
 IsLegal-take desc count journal = MayAllFollow-take desc count [] journal
 
+-- what is stale is no partition of a raw table
+is_raw-stale : (desc : DescOf) (journal : List Entry) (key : Key)
+    → is_stale desc journal key ≡ true → is_raw (slice_get desc.tables key.table) ≡ false
+is_raw-stale desc journal key stale =
+    false_from_ne_true (is_raw (slice_get desc.tables key.table)) (λ raw.
+    both_ways (is_stale desc journal key)
+    (is_stale-no_sources desc journal key (sources_of-raw desc key raw)) stale)
+
+-- an install with this place is of a view, and saw its sources settled after an entry of the journal
+pub record SawSettled (desc : DescOf) (journal : List Entry) (key : Key)
+    (place : ℕ) : Type 0 where
+  pub view : is_raw (slice_get desc.tables key.table) ≡ false
+  pub past : place ≤ length journal
+  pub ready : list_all (is_settled desc (take place journal)) (sources_of desc key) ≡ true
+
+-- so does one that may follow
+SawSettled-MayInstall : (desc : DescOf) (journal : List Entry) (key : Key) (at : ℕ)
+    → MayInstall desc journal key at → SawSettled desc journal key at
+SawSettled-MayInstall desc journal key at may = record {
+  view = is_raw-stale desc (take at journal) key may.stale;
+  past = may.past;
+  ready = may.ready;
+}
+
+-- entries more do not change what an install saw
+SawSettled-append : (desc : DescOf) (journal more : List Entry) (key : Key) (place : ℕ)
+    → SawSettled desc journal key place → SawSettled desc (journal ++ more) key place
+SawSettled-append desc journal more key place saw = record {
+  view = saw.view;
+  past = omega (arith, saw.past, length-append journal more);
+  ready = ap
+      (λ (before : List Entry). list_all (is_settled desc before) (sources_of desc key))
+      (take-append-le place journal more saw.past)
+      ∙ saw.ready;
+}
+
+-- an entry that may follow installs the partition with such a place, if it does
+SawSettled-step : (desc : DescOf) (journal : List Entry) (next : Entry) (key : Key)
+    → MayFollow desc journal next
+    → All (SawSettled desc journal key) (install_places (next ∷ []) key)
+SawSettled-step desc journal (entry.Load delivery) key follows =
+    All-nil (SawSettled desc journal key)
+SawSettled-step desc journal (entry.Install installed at) key follows =
+    elim (cases_Bool (installs key (entry.Install installed at))) [
+      | inl same ↦ rw same
+          (All-cons (SawSettled desc journal key) at []
+          (subst (λ (key : Key). SawSettled desc journal key at) (same-is_key key installed same)
+          (SawSettled-MayInstall desc journal installed at follows))
+          (All-nil (SawSettled desc journal key)))
+      | inr other ↦ rw other (All-nil (SawSettled desc journal key))
+    ]
+
+-- so all installs have such places, if those before it have
+SawSettled-push : (desc : DescOf) (journal : List Entry) (next : Entry) (key : Key)
+    → All (SawSettled desc journal key) (install_places journal key) → MayFollow desc journal next
+    → All (SawSettled desc (journal ++ next ∷ []) key) (install_places (journal ++ next ∷ []) key)
+SawSettled-push desc journal next key saw follows =
+    let before = install_places journal key in
+    let more = install_places (next ∷ []) key in
+    All-weaker (SawSettled desc journal key) (SawSettled desc (journal ++ next ∷ []) key)
+    (SawSettled-append desc journal (next ∷ []) key)
+    (install_places (journal ++ next ∷ []) key)
+    (subst (All (SawSettled desc journal key))
+    (sym (install_places-append journal (next ∷ []) key))
+    (All-append (SawSettled desc journal key) before more saw
+    (SawSettled-step desc journal next key follows)))
+
+-- in a legal journal each install is of a view, and saw its sources settled
+pub install_places-saw : (desc : DescOf) (journal : List Entry) (key : Key) → IsLegal desc journal
+    → All (SawSettled desc journal key) (install_places journal key)
+install_places-saw desc journal key =
+    IsLegal-kept desc (λ before. All (SawSettled desc before key) (install_places before key))
+    (All-nil (SawSettled desc [] key))
+    (λ before next _ saw follows. SawSettled-push desc before next key saw follows)
+    journal
+
 -- none of these places is behind a journal of this length
 abbrev pub AreWithin : (many : ℕ) → List ℕ → Type 0
 AreWithin many places = All (λ place. place ≤ many) places
@@ -102,41 +178,13 @@ last-AreWithin many first (next ∷ later) at_most within =
     last-AreWithin many next later (All-head (λ place. place ≤ many) next later within)
     (All-tail (λ place. place ≤ many) next later within)
 
--- an install that may follow has a place within the journal
-install_places-next : (desc : DescOf) (journal : List Entry) (next : Entry) (key : Key)
-    → MayFollow desc journal next → AreWithin (length journal) (install_places (next ∷ []) key)
-install_places-next desc journal (entry.Load delivery) key follows =
-    All-nil (λ place. place ≤ length journal)
-install_places-next desc journal (entry.Install installed at) key follows =
-    elim (cases_Bool (installs key (entry.Install installed at))) [
-      | inl same ↦ rw same
-          (All-cons (λ place. place ≤ length journal) at [] follows.past
-          (All-nil (λ place. place ≤ length journal)))
-      | inr other ↦ rw other (All-nil (λ place. place ≤ length journal))
-    ]
-
--- so the places of all installs stay within it
-install_places-push : (desc : DescOf) (journal : List Entry) (next : Entry) (key : Key)
-    → AreWithin (length journal) (install_places journal key) → MayFollow desc journal next
-    → AreWithin (length (journal ++ next ∷ [])) (install_places (journal ++ next ∷ []) key)
-install_places-push desc journal next key within follows =
-    let before = install_places journal key in
-    let more = install_places (next ∷ []) key in
-    All-weaker (λ place. place ≤ length journal) (λ place. place ≤ length (journal ++ next ∷ []))
-    (λ place at_most. omega (arith, at_most, length_push journal next))
-    (install_places (journal ++ next ∷ []) key)
-    (subst (AreWithin (length journal)) (sym (install_places-append journal (next ∷ []) key))
-    (All-append (λ place. place ≤ length journal) before more within
-    (install_places-next desc journal next key follows)))
-
 -- in a legal journal the place of each install is within it
 pub install_places-le : (desc : DescOf) (journal : List Entry) (key : Key) → IsLegal desc journal
     → AreWithin (length journal) (install_places journal key)
-install_places-le desc journal key =
-    IsLegal-kept desc (λ before. AreWithin (length before) (install_places before key))
-    (All-nil (λ place. place ≤ 0))
-    (λ before next _ within follows. install_places-push desc before next key within follows)
-    journal
+install_places-le desc journal key legal =
+    All-weaker (SawSettled desc journal key) (λ place. place ≤ length journal)
+    (λ place saw. saw.past) (install_places journal key)
+    (install_places-saw desc journal key legal)
 
 -- so is the last place of each partition
 pub last_place-le : (desc : DescOf) (journal : List Entry) (key : Key) → IsLegal desc journal
@@ -144,41 +192,3 @@ pub last_place-le : (desc : DescOf) (journal : List Entry) (key : Key) → IsLeg
 last_place-le desc journal key legal =
     last-AreWithin (length journal) 0 (install_places journal key) (omega arith)
     (install_places-le desc journal key legal)
-
--- where the sources of a partition are settled as its last install saw them, they still are behind
--- an entry that may follow
-seen-ready-push : (desc : DescOf) (journal : List Entry) (next : Entry) (key : Key)
-    → last_place journal key ≤ length journal
-    → list_all (is_settled desc (seen journal key)) (sources_of desc key) ≡ true
-    → MayFollow desc journal next
-    → list_all (is_settled desc (seen (journal ++ next ∷ []) key)) (sources_of desc key) ≡ true
-seen-ready-push desc journal (entry.Load delivery) key within ready follows =
-    ap (λ (before : List Entry). list_all (is_settled desc before) (sources_of desc key))
-    (seen-stay journal (entry.Load delivery ∷ []) key within refl)
-    ∙ ready
-seen-ready-push desc journal (entry.Install installed at) key within ready follows =
-    let settled = λ (before : List Entry) (key : Key).
-    list_all (is_settled desc before) (sources_of desc key) in
-    elim (cases_Bool (installs key (entry.Install installed at))) [
-      | inl same ↦
-          ap (λ (before : List Entry). settled before key)
-          (seen-Install journal key installed at same follows.past)
-          ∙ ap (settled (take at journal)) (sym (same-is_key key installed same))
-          ∙ follows.ready
-      | inr other ↦
-          ap (λ (before : List Entry). settled before key)
-          (seen-stay journal (entry.Install installed at ∷ []) key within (rw other refl))
-          ∙ ready
-    ]
-
--- in a legal journal the sources of each partition were settled as its last install saw them
-pub seen-ready : (desc : DescOf) (journal : List Entry) (key : Key) → IsLegal desc journal
-    → list_all (is_settled desc (seen journal key)) (sources_of desc key) ≡ true
-seen-ready desc journal key =
-    IsLegal-kept desc
-    (λ all. list_all (is_settled desc (seen all key)) (sources_of desc key) ≡ true)
-    (list_all-from_AllPass (is_settled desc []) (sources_of desc key)
-    (λ index default within. is_settled-no_entry desc (get_or (sources_of desc key) index default)))
-    (λ before next legal ready follows.
-    seen-ready-push desc before next key (last_place-le desc before key legal) ready follows)
-    journal

@@ -21,4 +21,5 @@ pub mod ReachedListLemmas
 pub mod UnsettledLemmas
 pub mod ContentLemmas
 pub mod GrowLemmas
+pub mod InstallValueLemmas
 pub mod ShownLemmas

@@ -1,5 +1,5 @@
 -- What it takes for a partition to be settled.
-use Rattle.std.proofs.Common.{◌≡◌, ◌∙◌, ℕ, zero, suc, ◌<◌, List, [], get_or, refl, sym, ap, arith}
+use Rattle.std.proofs.Common.{◌≡◌, ◌∙◌, ℕ, suc, ◌<◌, List, [], refl, sym, ap, arith}
 use Rattle.std.specs.Prelude.{Bool, true, false, not, ◌&&◌, All, nat_eq}
 use Rattle.std.specs.List.{list_all}
 use Rattle.std.specs.Cmp.Lexicographic.{pointwise, bytes_decides}
@@ -88,23 +88,12 @@ sources_of-settled desc journal key earlier settled =
     (list_all (is_settled desc journal) (sources_of desc key))
     (sym (is_settled-step desc journal key earlier) ∙ settled)).1)
 
--- a partition without sources is settled
+-- a partition without sources is not stale
+pub is_stale-no_sources : (desc : DescOf) (journal : List Entry) (key : Key)
+    → sources_of desc key ≡ [] → is_stale desc journal key ≡ false
+is_stale-no_sources desc journal key none = rw none refl
+
+-- it is settled
 pub is_settled-no_sources : (desc : DescOf) (journal : List Entry) (key : Key)
     → sources_of desc key ≡ [] → is_settled desc journal key ≡ true
 is_settled-no_sources desc journal key none = rw none refl
-
--- before any entry each partition is settled, down through any number of tables
-is_settled_within-no_entry : (depth : ℕ) (desc : DescOf) (key : Key)
-    → is_settled_within depth desc [] key ≡ true
-is_settled_within-no_entry zero desc key = refl
-is_settled_within-no_entry (suc depth) desc key =
-    and_from (not (is_stale desc [] key))
-    (list_all (is_settled_within depth desc []) (sources_of desc key))
-    (not_from_false (is_stale desc [] key) (is_stale-current desc [] key refl))
-    (list_all-from_AllPass (is_settled_within depth desc []) (sources_of desc key)
-    (λ index default within.
-    is_settled_within-no_entry depth desc (get_or (sources_of desc key) index default)))
-
--- before any entry each partition is settled
-pub is_settled-no_entry : (desc : DescOf) (key : Key) → is_settled desc [] key ≡ true
-is_settled-no_entry desc key = is_settled_within-no_entry (suc key.table) desc key

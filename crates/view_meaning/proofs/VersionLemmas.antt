@@ -1,6 +1,6 @@
 -- The versions of a partition as its journal grows: they never fall, and they stay where nothing is
 -- loaded and the partition is not installed.
-use Rattle.std.proofs.Common.{◌≡◌, ◌∙◌, ℕ, ◌≤◌, List, [], ◌∷◌, ◌++◌, length, take, drop, refl, ap, map, subst, inl, inr, arith}
+use Rattle.std.proofs.Common.{◌≡◌, ◌∙◌, ℕ, ◌≤◌, List, [], ◌∷◌, ◌++◌, length, take, drop, get_or, refl, sym, ap, map, subst, inl, inr, arith}
 use Rattle.std.specs.Prelude.{true, false, filter, fold, slice_get, if◌then◌else◌}
 use Rattle.std.proofs.lemmas.Bool.{cases_Bool}
 use Rattle.std.proofs.lemmas.List.{append-nil, map-append, length-append, take-append-drop, take-append-le}
@@ -12,7 +12,7 @@ use Rattle.table_desc.specs.Descriptions.{DescOf}
 use Rattle.view_meaning.specs.declared.journal.Entry.{Entry}
 use Rattle.view_meaning.specs.declared.journal.Entry.TheVariants as entry
 use Rattle.view_meaning.specs.Journal.{accepted}
-use Rattle.view_meaning.specs.Versions.{loads_behind, raw_version, installs, place_of, install_places, is_raw, version, last_place, current, recorded}
+use Rattle.view_meaning.specs.Versions.{loads_behind, raw_version, installs, place_of, install_places, is_raw, version, nth_place, last_place, current, recorded}
 use Rattle.view_meaning.proofs.JournalLemmas.{accepted-append}
 
 -- the installs of a partition in two journals are those in the first, then those in the second
@@ -91,6 +91,26 @@ last_place-stay journal more key none =
     ap (λ (places : List ℕ). fold (λ _ place. place) 0 places)
     (install_places-stay journal more key none)
 
+-- a partition without an install has no last place
+pub last_place-none : (journal : List Entry) (key : Key) → install_places journal key ≡ []
+    → last_place journal key ≡ 0
+last_place-none journal key none = ap (λ (places : List ℕ). fold (λ _ place. place) 0 places) none
+
+-- the last of some numbers is what a fold that keeps the newest ends in
+get_or-last : (first : ℕ) (later : List ℕ)
+    → get_or (first ∷ later) (length later) 0 ≡ fold (λ _ number. number) first later
+get_or-last first [] = refl
+get_or-last first (next ∷ later) = get_or-last next later
+
+-- the last install is the one that has all others before it
+pub nth_place-last : (journal : List Entry) (key : Key) (first : ℕ) (later : List ℕ)
+    → install_places journal key ≡ first ∷ later
+    → nth_place journal key (length later) ≡ last_place journal key
+nth_place-last journal key first later some =
+    ap (λ (places : List ℕ). get_or places (length later) 0) some
+    ∙ get_or-last first later
+    ∙ ap (λ (places : List ℕ). fold (λ _ place. place) 0 places) (sym some)
+
 -- an install at the end of the journal is the last one
 pub last_place-Install : (journal : List Entry) (key installed : Key) (at : ℕ)
     → installs key (entry.Install installed at) ≡ true
@@ -113,15 +133,6 @@ pub seen-stay : (journal more : List Entry) (key : Key)
 seen-stay journal more key within none =
     ap (λ (place : ℕ). take place (journal ++ more)) (last_place-stay journal more key none)
     ∙ take-append-le (last_place journal key) journal more within
-
--- an install at the end of the journal counted those up to its place
-pub seen-Install : (journal : List Entry) (key installed : Key) (at : ℕ)
-    → installs key (entry.Install installed at) ≡ true → at ≤ length journal
-    → seen (journal ++ entry.Install installed at ∷ []) key ≡ take at journal
-seen-Install journal key installed at same within =
-    ap (λ (place : ℕ). take place (journal ++ entry.Install installed at ∷ []))
-    (last_place-Install journal key installed at same)
-    ∙ take-append-le at journal (entry.Install installed at ∷ []) within
 
 -- what the last install recorded stays where the partition is not installed since
 pub recorded-stay : (desc : DescOf) (journal more : List Entry) (key : Key)

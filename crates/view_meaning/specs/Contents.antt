@@ -1,5 +1,5 @@
 -- What the rows of a version are, by the versions that it was made of.
-use Rattle.std.specs.Prelude.{ℕ, zero, suc, ◌≡◌, List, [], ◌∷◌, ◌++◌, Option, Some, None, true, map, filter, flat_map, take, get_or, slice_get, if◌then◌else◌}
+use Rattle.std.specs.Prelude.{ℕ, zero, suc, ◌≡◌, List, [], ◌∷◌, ◌++◌, Option, Some, None, true, map, filter, flat_map, take, slice_get, if◌then◌else◌}
 use Rattle.depot_cell.specs.declared.cell.Cell.{Cell}
 use Rattle.table_desc.specs.declared.table.Key.{Key}
 use Rattle.table_desc.specs.declared.delivery.DRow.{DRow}
@@ -11,7 +11,7 @@ use Rattle.view_meaning.specs.Journal.{accepted}
 use Rattle.view_meaning.specs.SetAside.{kept_rows}
 use Rattle.view_meaning.specs.RawValues.{lies_in}
 use Rattle.view_meaning.specs.Operations.{operation}
-use Rattle.view_meaning.specs.Versions.{touches, is_raw_kind, version, install_places}
+use Rattle.view_meaning.specs.Versions.{touches, is_raw_kind, version, nth_place}
 use Rattle.view_meaning.specs.Staleness.{is_settled}
 use Rattle.view_meaning.specs.Values.{joined, value}
 
@@ -50,7 +50,7 @@ abbrev pub view_content : DescOf → (rows : Key → ℕ → List (List Cell)) �
     → TableOf → (number : ℕ) → List (List Cell)
 view_content desc rows journal key table zero = []
 view_content desc rows journal key table (suc number) =
-    install_content desc rows journal key table (get_or (install_places journal key) number 0)
+    install_content desc rows journal key table (nth_place journal key number)
 
 -- the content of a version of a partition of this table, where the versions of partitions of
 -- earlier tables have these rows

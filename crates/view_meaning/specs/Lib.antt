@@ -9,6 +9,7 @@ pub mod Values
 pub mod Staleness
 pub mod LegalJournals
 pub mod Contents
+pub mod Installs
 pub mod Drains
 pub mod Reached
 pub mod PartLists

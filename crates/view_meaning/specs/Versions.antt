@@ -1,5 +1,5 @@
 -- Versions: how often the rows of a partition have changed.
-use Rattle.std.specs.Prelude.{ℕ, ◌+◌, List, [], ◌∷◌, ◌++◌, Option, Some, None, Bool, true, false, ◌&&◌, ◌==◌, if◌then◌else◌, length, map, filter, fold, take, slice_get}
+use Rattle.std.specs.Prelude.{ℕ, ◌+◌, List, [], ◌∷◌, ◌++◌, Option, Some, None, Bool, true, false, ◌&&◌, ◌==◌, if◌then◌else◌, length, map, filter, fold, take, get_or, slice_get}
 use Rattle.std.specs.List.{list_any}
 use Rattle.table_desc.specs.declared.table.Key.{Key}
 use Rattle.table_desc.specs.Deliveries.{DeliveryOf}
@@ -61,6 +61,10 @@ abbrev pub version : DescOf → List Entry → Key → ℕ
 version desc journal key =
     if is_raw (slice_get desc.tables key.table) then raw_version desc (accepted journal) key
     else length (install_places journal key)
+
+-- the place of an install of the partition, counted from 0
+abbrev pub nth_place : List Entry → Key → (number : ℕ) → ℕ
+nth_place journal key number = get_or (install_places journal key) number 0
 
 -- the place of the last install of the partition, or 0
 abbrev pub last_place : List Entry → Key → ℕ

@@ -3,6 +3,7 @@
 
 ghost use Rattle.view_meaning.specs.Contents.{HasSettledValues};
 ghost use Rattle.view_meaning.specs.Drains.{HasLegalDrains, HasSettlingDrains};
+ghost use Rattle.view_meaning.specs.Installs.{HasInstallValues};
 ghost use Rattle.view_meaning.specs.Reached.{HasReachedUnsettled};
 ghost use Rattle.view_meaning.specs.Shown.{HasShownContents};
 
@@ -10,6 +11,12 @@ ghost use Rattle.view_meaning.specs.Shown.{HasShownContents};
 /// scratch over all accepted deliveries.
 pub fn settled_is_value()
     ensures law { HasSettledValues }
+{}
+
+/// A law: in a legal journal the version that an install made holds the value from scratch over the
+/// deliveries up to its place.
+pub fn installs_are_values()
+    ensures law { HasInstallValues }
 {}
 
 /// A law: a drain of a legal journal leaves a legal one.
