@@ -77,7 +77,7 @@ is_among-done desc journal done rest key split settled =
     ∙ ap (λ (settled : Bool). not settled && is_among (all_view_keys desc) key) settled)).0
 
 -- what is true of each partition of a view is true of those that are not settled
-All-unsettled : (P : Key → Type 0) (desc : DescOf) (journal : List Entry)
+pub All-unsettled : (P : Key → Type 0) (desc : DescOf) (journal : List Entry)
     → All P (all_view_keys desc) → All P (unsettled desc journal)
 All-unsettled P desc journal =
     All-filter (λ key. not (is_settled desc journal key)) P (all_view_keys desc)

@@ -25,7 +25,7 @@ parts_met-empty width from to empty =
     is_met-empty width from to (get_or (range_with_len 0 to) index default) empty)
 
 -- a partition with no ticks shares none with a span
-is_met-no_width : (from to part : ℕ) → is_met 0 from to part ≡ false
+pub is_met-no_width : (from to part : ℕ) → is_met 0 from to part ≡ false
 is_met-no_width from to part =
     le-ltb (max (start_of 0 part) from) (min (end_of 0 part) to) (omega arith)
 

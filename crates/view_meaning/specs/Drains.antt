@@ -8,6 +8,7 @@ use Rattle.view_meaning.specs.declared.journal.Entry.{Entry}
 use Rattle.view_meaning.specs.declared.journal.Entry.TheVariants as entry
 use Rattle.table_desc.specs.Sources.{HasEarlierSources}
 use Rattle.view_meaning.specs.Partitions.{all_parts, is_part}
+use Rattle.view_meaning.specs.Journal.{FitsJournal}
 use Rattle.view_meaning.specs.Versions.{is_raw_kind}
 use Rattle.view_meaning.specs.Staleness.{is_settled}
 use Rattle.view_meaning.specs.LegalJournals.{IsLegal}
@@ -35,6 +36,11 @@ with_install journal key = journal ++ entry.Install key (length journal) ∷ []
 -- key
 abbrev pub drained : DescOf → List Entry → List Entry
 drained desc journal = fold with_install journal (unsettled desc journal)
+
+-- a drain of a journal that fits the description leaves one
+abbrev pub HasFittingDrains : Type 0
+HasFittingDrains = (desc : DescOf) (journal : List Entry)
+    → FitsJournal desc journal → FitsJournal desc (drained desc journal)
 
 -- a drain of a legal journal leaves a legal one
 abbrev pub HasLegalDrains : Type 0

@@ -2,7 +2,7 @@
 //! nothing, so that it is proved, and can be cited.
 
 ghost use Rattle.view_meaning.specs.Contents.{HasSettledValues};
-ghost use Rattle.view_meaning.specs.Drains.{HasLegalDrains, HasSettlingDrains};
+ghost use Rattle.view_meaning.specs.Drains.{HasFittingDrains, HasLegalDrains, HasSettlingDrains};
 ghost use Rattle.view_meaning.specs.Installs.{HasInstallValues};
 ghost use Rattle.view_meaning.specs.Reached.{HasReachedUnsettled};
 ghost use Rattle.view_meaning.specs.Shown.{HasShownContents};
@@ -17,6 +17,11 @@ pub fn settled_is_value()
 /// deliveries up to its place.
 pub fn installs_are_values()
     ensures law { HasInstallValues }
+{}
+
+/// A law: a drain of a journal that fits the description leaves one.
+pub fn drains_fit()
+    ensures law { HasFittingDrains }
 {}
 
 /// A law: a drain of a legal journal leaves a legal one.

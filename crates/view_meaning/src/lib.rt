@@ -18,8 +18,8 @@ mod tests;
 
 pub use journal::{Entry, Loaded};
 pub use laws::{
-    drains_are_legal, drains_settle, installs_are_values, reached_are_unsettled, settled_is_value,
-    shown_is_content,
+    drains_are_legal, drains_fit, drains_settle, installs_are_values, reached_are_unsettled,
+    settled_is_value, shown_is_content,
 };
 pub use parts::{Parts, plain_parts};
 pub use plain::{plain_value, plain_version};
