@@ -3,7 +3,7 @@ use Rattle.std.specs.Prelude.{ℕ, ◌<◌, ◌≤◌, ◌≡◌, ◌^◌, ◌==
 use Rattle.std.specs.List.{AllZip, AllAdjacentBelow, list_any}
 use Rattle.depot_cell.specs.declared.cell.Cell.{Cell}
 use Rattle.depot_cell.specs.declared.cell.Cell.TheVariants as cell
-use Rattle.depot_cell.specs.Cells.{ty_of}
+use Rattle.depot_cell.specs.Cells.{ty_of, IsCell}
 use Rattle.table_desc.specs.declared.table.Column.{Column}
 use Rattle.table_desc.specs.declared.table.Key.{Key}
 use Rattle.table_desc.specs.declared.delivery.DRow.{DRow}
@@ -61,11 +61,12 @@ IsView (Filter _ _ _) = ⊤
 IsView (Group _ _ _) = ⊤
 IsView (Join _ _ _) = ⊤
 
--- the cells are a row of this raw table of the feed
-pub record IsRowOf (feed : ℕ) (cells : List Cell) (table : TableOf) : Type 0 where
+-- the cells are a row of this raw table of the feed: each is an int of 64 bits or a short text
+pub record IsRowOf (feed : ℕ) (row : List Cell) (table : TableOf) : Type 0 where
   pub of_feed : IsRawOf feed table.kind
-  pub typed : AllZip (λ (column : Column) cell. ty_of cell ≡ column.ty) table.columns cells
-  pub in_time : IsSomeAnd (row_tick table.kind cells) (λ tick. tick < END)
+  pub cells : All IsCell row
+  pub typed : AllZip (λ (column : Column) cell. ty_of cell ≡ column.ty) table.columns row
+  pub in_time : IsSomeAnd (row_tick table.kind row) (λ tick. tick < END)
 
 -- the row is one of a raw table of the feed
 abbrev pub FitsRow : DescOf → ℕ → DRow → Type 0
