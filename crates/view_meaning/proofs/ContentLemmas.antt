@@ -22,9 +22,9 @@ use Rattle.view_meaning.specs.Partitions.{keys_read, sources_of, keys_below}
 use Rattle.view_meaning.specs.Journal.{accepted}
 use Rattle.view_meaning.specs.RawValues.{lies_in, raw_value}
 use Rattle.view_meaning.specs.TableRows.{cells_where}
-use Rattle.view_meaning.specs.SetAside.{kept_rows, kept_behind}
+use Rattle.view_meaning.specs.SetAside.{kept_rows, kept_after}
 use Rattle.view_meaning.specs.Operations.{operation, filtered}
-use Rattle.view_meaning.specs.Versions.{touches, loads_behind, raw_version, is_raw, is_raw_kind, version, install_places, last_place, current, recorded}
+use Rattle.view_meaning.specs.Versions.{touches, loads_after, raw_version, is_raw, is_raw_kind, version, install_places, last_place, current, recorded}
 use Rattle.view_meaning.specs.Values.{joined, value_over, value_within, value}
 use Rattle.view_meaning.specs.Staleness.{is_stale, is_settled_within}
 use Rattle.view_meaning.specs.Contents.{rows_kept, loads_kept, raw_content, install_content, view_content, content_over, content_within, HasSettledValues}
@@ -49,7 +49,7 @@ length-cons_if false first rest = omega arith
 
 -- there are rows of each delivery that keeps one in the partition
 pub length-loads_kept : (desc : DescOf) (key : Key) (before accepted : List DeliveryOf)
-    → length (loads_kept desc key before accepted) ≡ loads_behind desc key before accepted
+    → length (loads_kept desc key before accepted) ≡ loads_after desc key before accepted
 length-loads_kept desc key before [] = refl
 length-loads_kept desc key before (delivery ∷ later) =
     length-cons_if (touches desc key before delivery) (rows_kept desc key before delivery)
@@ -60,7 +60,7 @@ length-loads_kept desc key before (delivery ∷ later) =
 -- these rows are, one after the other, all kept rows of the partition
 flat_map-loads_kept : (desc : DescOf) (key : Key) (before accepted : List DeliveryOf)
     → flat_map (λ rows. rows) (loads_kept desc key before accepted)
-    ≡ cells_where (lies_in desc key) (kept_behind desc before accepted)
+    ≡ cells_where (lies_in desc key) (kept_after desc before accepted)
 flat_map-loads_kept desc key before [] = refl
 flat_map-loads_kept desc key before (delivery ∷ later) =
     flat_map-cons_if (touches desc key before delivery) (rows_kept desc key before delivery)
@@ -70,7 +70,7 @@ flat_map-loads_kept desc key before (delivery ∷ later) =
     ∙ ap (λ (rows : List (List Cell)). rows_kept desc key before delivery ++ rows)
     (flat_map-loads_kept desc key (before ++ delivery ∷ []) later)
     ∙ sym (cells_where-append (lies_in desc key) (kept_rows desc before delivery)
-    (kept_behind desc (before ++ delivery ∷ []) later))
+    (kept_after desc (before ++ delivery ∷ []) later))
 
 -- the content of the latest version of a raw partition is its value
 raw_content-raw_version : (desc : DescOf) (accepted : List DeliveryOf) (key : Key)

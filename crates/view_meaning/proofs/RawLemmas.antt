@@ -18,7 +18,7 @@ use Rattle.view_meaning.specs.Journal.{accepted}
 use Rattle.view_meaning.specs.RawValues.{lies_in, raw_value}
 use Rattle.view_meaning.specs.TableRows.{lies_in_table, cells_where}
 use Rattle.view_meaning.specs.SetAside.{kept, kept_rows}
-use Rattle.view_meaning.specs.Versions.{touches, loads_behind, raw_version, is_raw, version}
+use Rattle.view_meaning.specs.Versions.{touches, loads_after, raw_version, is_raw, version}
 use Rattle.view_meaning.proofs.FilterLemmas.{filter-none}
 use Rattle.view_meaning.proofs.SetAsideLemmas.{kept-append, kept_rows-all}
 
@@ -50,24 +50,24 @@ raw_value-append desc accepted key delivery =
     ∙ cells_where-append (lies_in desc key) (kept desc accepted) delivery.rows
 
 -- one delivery more behind the others counts where it keeps a row in the partition
-loads_behind-append : (desc : DescOf) (key : Key) (before accepted : List DeliveryOf)
+loads_after-append : (desc : DescOf) (key : Key) (before accepted : List DeliveryOf)
     (delivery : DeliveryOf)
-    → loads_behind desc key before (accepted ++ delivery ∷ [])
-    ≡ loads_behind desc key before accepted
+    → loads_after desc key before (accepted ++ delivery ∷ [])
+    ≡ loads_after desc key before accepted
     + (if touches desc key (before ++ accepted) delivery then 1 else 0)
-loads_behind-append desc key before [] delivery =
+loads_after-append desc key before [] delivery =
     add_comm (if touches desc key before delivery then 1 else 0) 0
     ∙ ap (λ (all : List DeliveryOf). 0 + (if touches desc key all delivery then 1 else 0))
     (sym (append-nil before))
-loads_behind-append desc key before (first ∷ later) delivery =
+loads_after-append desc key before (first ∷ later) delivery =
     ap (λ (count : ℕ). (if touches desc key before first then 1 else 0) + count)
-    (loads_behind-append desc key (before ++ first ∷ []) later delivery
+    (loads_after-append desc key (before ++ first ∷ []) later delivery
     ∙ ap (λ (all : List DeliveryOf).
-    loads_behind desc key (before ++ first ∷ []) later
+    loads_after desc key (before ++ first ∷ []) later
     + (if touches desc key all delivery then 1 else 0))
     (append_assoc before (first ∷ []) later))
     ∙ sym (add_assoc (if touches desc key before first then 1 else 0)
-    (loads_behind desc key (before ++ first ∷ []) later)
+    (loads_after desc key (before ++ first ∷ []) later)
     (if touches desc key (before ++ first ∷ later) delivery then 1 else 0))
 
 -- one delivery more counts where it has a row in the partition
@@ -77,7 +77,7 @@ pub raw_version-append : (desc : DescOf) (accepted : List DeliveryOf) (key : Key
     ≡ raw_version desc accepted key
     + (if list_any (lies_in desc key) delivery.rows then 1 else 0)
 raw_version-append desc accepted key delivery =
-    loads_behind-append desc key [] accepted delivery
+    loads_after-append desc key [] accepted delivery
     ∙ ap (λ (rows : List DRow).
     raw_version desc accepted key + (if list_any (lies_in desc key) rows then 1 else 0))
     (kept_rows-all desc accepted delivery)
@@ -146,20 +146,20 @@ raw_value-no_table desc accepted key no_table =
     (λ index default _. lies_in-no_table desc key no_table (get_or rows index default)))
 
 -- where there is no such table no delivery counts
-loads_behind-no_table : (desc : DescOf) (key : Key) (before accepted : List DeliveryOf)
-    → slice_get desc.tables key.table ≡ None → loads_behind desc key before accepted ≡ 0
-loads_behind-no_table desc key before [] no_table = refl
-loads_behind-no_table desc key before (delivery ∷ later) no_table =
+loads_after-no_table : (desc : DescOf) (key : Key) (before accepted : List DeliveryOf)
+    → slice_get desc.tables key.table ≡ None → loads_after desc key before accepted ≡ 0
+loads_after-no_table desc key before [] no_table = refl
+loads_after-no_table desc key before (delivery ∷ later) no_table =
     let rows = kept_rows desc before delivery in
     let none : touches desc key before delivery ≡ false =
     list_any_none (lies_in desc key) rows
     (λ index default _. lies_in-no_table desc key no_table (get_or rows index default)) in
-    rw none (rw (loads_behind-no_table desc key (before ++ delivery ∷ []) later no_table) refl)
+    rw none (rw (loads_after-no_table desc key (before ++ delivery ∷ []) later no_table) refl)
 
 -- where there is no such table the version is 0
 pub raw_version-no_table : (desc : DescOf) (accepted : List DeliveryOf) (key : Key)
     → slice_get desc.tables key.table ≡ None → raw_version desc accepted key ≡ 0
-raw_version-no_table desc accepted key = loads_behind-no_table desc key [] accepted
+raw_version-no_table desc accepted key = loads_after-no_table desc key [] accepted
 
 -- the version of a raw table's partition is told by the accepted deliveries
 pub version-raw : (desc : DescOf) (journal : List Entry) (key : Key)

@@ -5,7 +5,7 @@ use Rattle.std.proofs.lemmas.List.{append-nil, append_assoc}
 use Rattle.table_desc.specs.declared.delivery.DRow.{DRow}
 use Rattle.table_desc.specs.Deliveries.{DeliveryOf}
 use Rattle.table_desc.specs.Descriptions.{DescOf}
-use Rattle.view_meaning.specs.SetAside.{is_late, kept_rows, aside_rows, kept_behind, kept}
+use Rattle.view_meaning.specs.SetAside.{is_late, kept_rows, aside_rows, kept_after, kept}
 use Rattle.view_meaning.proofs.FilterLemmas.{filter-none, filter-all}
 
 -- a delivery keeps all its rows
@@ -21,23 +21,23 @@ aside_rows-none desc before delivery =
     filter-none (is_late desc before) delivery.rows (λ _ _ _. refl)
 
 -- the rows that one delivery more keeps come last
-kept_behind-append : (desc : DescOf) (before accepted : List DeliveryOf) (delivery : DeliveryOf)
-    → kept_behind desc before (accepted ++ delivery ∷ [])
-    ≡ kept_behind desc before accepted ++ kept_rows desc (before ++ accepted) delivery
-kept_behind-append desc before [] delivery =
+kept_after-append : (desc : DescOf) (before accepted : List DeliveryOf) (delivery : DeliveryOf)
+    → kept_after desc before (accepted ++ delivery ∷ [])
+    ≡ kept_after desc before accepted ++ kept_rows desc (before ++ accepted) delivery
+kept_after-append desc before [] delivery =
     append-nil (kept_rows desc before delivery)
     ∙ ap (λ (all : List DeliveryOf). kept_rows desc all delivery) (sym (append-nil before))
-kept_behind-append desc before (first ∷ later) delivery =
+kept_after-append desc before (first ∷ later) delivery =
     ap (λ (rest : List DRow). kept_rows desc before first ++ rest)
-    (kept_behind-append desc (before ++ first ∷ []) later delivery
+    (kept_after-append desc (before ++ first ∷ []) later delivery
     ∙ ap (λ (all : List DeliveryOf).
-    kept_behind desc (before ++ first ∷ []) later ++ kept_rows desc all delivery)
+    kept_after desc (before ++ first ∷ []) later ++ kept_rows desc all delivery)
     (append_assoc before (first ∷ []) later))
     ∙ sym (append_assoc (kept_rows desc before first)
-    (kept_behind desc (before ++ first ∷ []) later)
+    (kept_after desc (before ++ first ∷ []) later)
     (kept_rows desc (before ++ first ∷ later) delivery))
 
 -- the rows that one delivery more keeps come last, behind those of all before it
 pub kept-append : (desc : DescOf) (accepted : List DeliveryOf) (delivery : DeliveryOf)
     → kept desc (accepted ++ delivery ∷ []) ≡ kept desc accepted ++ kept_rows desc accepted delivery
-kept-append desc accepted delivery = kept_behind-append desc [] accepted delivery
+kept-append desc accepted delivery = kept_after-append desc [] accepted delivery

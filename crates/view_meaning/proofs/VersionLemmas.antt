@@ -12,7 +12,7 @@ use Rattle.table_desc.specs.Descriptions.{DescOf}
 use Rattle.view_meaning.specs.declared.journal.Entry.{Entry}
 use Rattle.view_meaning.specs.declared.journal.Entry.TheVariants as entry
 use Rattle.view_meaning.specs.Journal.{accepted}
-use Rattle.view_meaning.specs.Versions.{loads_behind, raw_version, installs, place_of, install_places, is_raw, version, nth_place, last_place, current, recorded}
+use Rattle.view_meaning.specs.Versions.{loads_after, raw_version, installs, place_of, install_places, is_raw, version, nth_place, last_place, current, recorded}
 use Rattle.view_meaning.proofs.JournalLemmas.{accepted-append}
 
 -- the installs of a partition in two journals are those in the first, then those in the second
@@ -31,16 +31,16 @@ install_places-stay journal more key none =
     ∙ append-nil (install_places journal key)
 
 -- deliveries that follow never lower the count
-loads_behind-le : (desc : DescOf) (key : Key) (before accepted more : List DeliveryOf)
-    → loads_behind desc key before accepted ≤ loads_behind desc key before (accepted ++ more)
-loads_behind-le desc key before [] more = omega arith
-loads_behind-le desc key before (delivery ∷ later) more =
-    omega (arith, loads_behind-le desc key (before ++ delivery ∷ []) later more)
+loads_after-le : (desc : DescOf) (key : Key) (before accepted more : List DeliveryOf)
+    → loads_after desc key before accepted ≤ loads_after desc key before (accepted ++ more)
+loads_after-le desc key before [] more = omega arith
+loads_after-le desc key before (delivery ∷ later) more =
+    omega (arith, loads_after-le desc key (before ++ delivery ∷ []) later more)
 
 -- deliveries more never lower the version of a raw partition
 pub raw_version-le : (desc : DescOf) (accepted more : List DeliveryOf) (key : Key)
     → raw_version desc accepted key ≤ raw_version desc (accepted ++ more) key
-raw_version-le desc accepted more key = loads_behind-le desc key [] accepted more
+raw_version-le desc accepted more key = loads_after-le desc key [] accepted more
 
 -- the version of a partition of another table is the number of its installs
 pub version-view : (desc : DescOf) (journal : List Entry) (key : Key)
@@ -54,7 +54,7 @@ pub version-le : (desc : DescOf) (journal more : List Entry) (key : Key)
 version-le desc journal more key =
     elim (cases_Bool (is_raw (slice_get desc.tables key.table))) [
       | inl raw ↦ rw raw (rw (accepted-append journal more)
-          (loads_behind-le desc key [] (accepted journal) (accepted more)))
+          (loads_after-le desc key [] (accepted journal) (accepted more)))
       | inr view ↦ rw view (omega (
         arith,
         ap length (install_places-append journal more key),

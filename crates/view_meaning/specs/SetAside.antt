@@ -18,11 +18,11 @@ abbrev pub aside_rows : DescOf → List DeliveryOf → DeliveryOf → List DRow
 aside_rows desc before delivery = filter (is_late desc before) delivery.rows
 
 -- the rows kept of deliveries that were accepted one by one behind those before
-abbrev pub kept_behind : DescOf → (before accepted : List DeliveryOf) → List DRow
-kept_behind desc before [] = []
-kept_behind desc before (delivery ∷ later) =
-    kept_rows desc before delivery ++ kept_behind desc (before ++ delivery ∷ []) later
+abbrev pub kept_after : DescOf → (before accepted : List DeliveryOf) → List DRow
+kept_after desc before [] = []
+kept_after desc before (delivery ∷ later) =
+    kept_rows desc before delivery ++ kept_after desc (before ++ delivery ∷ []) later
 
 -- all rows kept of the accepted deliveries, in order of acceptance, then of record
 abbrev pub kept : DescOf → List DeliveryOf → List DRow
-kept desc accepted = kept_behind desc [] accepted
+kept desc accepted = kept_after desc [] accepted

@@ -19,15 +19,15 @@ touches desc key before delivery = list_any (lies_in desc key) (kept_rows desc b
 
 -- how many of the deliveries that were accepted one by one behind those before keep a row in the
 -- partition
-abbrev pub loads_behind : DescOf → Key → (before accepted : List DeliveryOf) → ℕ
-loads_behind desc key before [] = 0
-loads_behind desc key before (delivery ∷ later) =
+abbrev pub loads_after : DescOf → Key → (before accepted : List DeliveryOf) → ℕ
+loads_after desc key before [] = 0
+loads_after desc key before (delivery ∷ later) =
     (if touches desc key before delivery then 1 else 0)
-    + loads_behind desc key (before ++ delivery ∷ []) later
+    + loads_after desc key (before ++ delivery ∷ []) later
 
 -- the version of a raw partition: the number of accepted deliveries that kept a row in it
 abbrev pub raw_version : DescOf → List DeliveryOf → Key → ℕ
-raw_version desc accepted key = loads_behind desc key [] accepted
+raw_version desc accepted key = loads_after desc key [] accepted
 
 -- whether an entry installs the partition
 abbrev pub installs : Key → Entry → Bool

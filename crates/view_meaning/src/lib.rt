@@ -21,7 +21,7 @@ pub use laws::{
     drains_are_legal, drains_fit, drains_settle, installs_are_values, reached_are_unsettled,
     settled_is_value, shown_is_content,
 };
-pub use parts::{Parts, plain_parts};
+pub use parts::{Parts, parts_of_span};
 pub use plain::{plain_value, plain_version};
-pub use reached::plain_reached;
+pub use reached::reached_keys;
 pub use request::{Item, Mark, PinItem};

@@ -15,7 +15,7 @@ pub struct Parts {
 }
 
 /// The partitions that share a tick with `from` up to, but not including, `to`.
-pub fn plain_parts(width: Width, from: u64, to: u64) -> Parts
+pub fn parts_of_span(width: Width, from: u64, to: u64) -> Parts
     requires in_order { from ≤ to }
     requires in_time { to ≤ END }
     ensures exact { parts_met width from to ≡ range_with_len result.first result.count }
@@ -40,16 +40,16 @@ pub(crate) fn parts_read(width: Width, source_width: Width, span: Span, part: u6
         ≡ range_with_len result.first result.count }
     ensures within { result.first + result.count ≤ END }
 {
-    let from = tick_behind(width, u128::from(part), span.lo);
-    let to = tick_behind(width, u128::from(part) + 1, span.hi).min(u128::from(END));
+    let from = tick_after(width, u128::from(part), span.lo);
+    let to = tick_after(width, u128::from(part) + 1, span.hi).min(u128::from(END));
     if to <= from {
         return Parts { first: 0, count: 0 };
     }
-    plain_parts(source_width, from as u64, to as u64)
+    parts_of_span(source_width, from as u64, to as u64)
 }
 
 /// The tick so far behind the start of a partition, or the first one where it lies before time.
-fn tick_behind(width: Width, part: u128, offset: i64) -> u128
+fn tick_after(width: Width, part: u128, offset: i64) -> u128
     requires { part ≤ 2 ^ 64 }
     ensures exact { result ≡ tick_at_least (pos (part * width) +ℤ offset) }
 {

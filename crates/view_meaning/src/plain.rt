@@ -132,7 +132,7 @@ fn push_rows(
         ++ cells_where (lies_in_table table.now key) delivery.now.rows) }
 {
     for row in &delivery.rows {
-        if lies_in(table, key, row) && rows.push(copy_row(alloc, &row.cells)?).is_err() {
+        if lies_in_table(table, key, row) && rows.push(copy_row(alloc, &row.cells)?).is_err() {
             return Err(Memory);
         }
     }
@@ -143,11 +143,14 @@ fn push_rows(
 fn touches(table: &Table, key: Key, delivery: &Delivery) -> bool
     ensures { result ≡ list_any (lies_in_table table.now key) delivery.now.rows }
 {
-    delivery.rows.iter().any(|row| lies_in(table, key, row))
+    delivery
+        .rows
+        .iter()
+        .any(|row| lies_in_table(table, key, row))
 }
 
 /// Whether a row lies in the partition of the key, which is one of this table.
-fn lies_in(table: &Table, key: Key, row: &DRow) -> bool
+fn lies_in_table(table: &Table, key: Key, row: &DRow) -> bool
     ensures { result ≡ lies_in_table table.now key row.now }
 {
     row.table == key.table

@@ -20,11 +20,7 @@ use table_desc::{DRow, Delivery, Desc, END, Key, Kind, Src, Table, Width};
 /// The partitions of views that deliveries reach, in order of key: those that stand above a
 /// partition of which they bring a row. The work is by the rows and by the partitions that they
 /// reach, and never by all partitions of time.
-pub fn plain_reached(
-    alloc: Global,
-    desc: &Desc,
-    deliveries: &[Delivery],
-) -> Result<Vec<Key>, Memory>
+pub fn reached_keys(alloc: Global, desc: &Desc, deliveries: &[Delivery]) -> Result<Vec<Key>, Memory>
     requires few { length desc.now.tables ≤ 65_536 }
     requires earlier { HasEarlierSources desc.now }
     requires aligned { HasAlignedSources desc.now }

@@ -6,7 +6,7 @@ ghost use Rattle.table_desc.specs.Kinds.{kind_of};
 ghost use Rattle.table_desc.specs.Time.{IsWidth};
 ghost use Rattle.table_desc.specs.Sources.{HasAlignedSources, HasEarlierSources};
 
-use crate::{Parts, plain_parts, plain_reached, plain_value, plain_version};
+use crate::{Parts, parts_of_span, plain_value, plain_version, reached_keys};
 use depot_cell::{Cell, Op, Row, Str, Ty, read_cell};
 use std::alloc::Global;
 use std::test::Fail;
@@ -327,7 +327,7 @@ fn deliveries_reach_what_stands_above_their_rows(rt: HostRuntime) -> Result<(), 
         (&nowhere[..], &[]),
     ] {
         let deliveries = vec![in alloc; delivery(alloc, 0, rows)?]?;
-        let reached = plain_reached(alloc, &desc, &deliveries)?;
+        let reached = reached_keys(alloc, &desc, &deliveries)?;
         assert_eq!(rt; reached.len(), want.len());
         for (key, (table, part)) in reached.iter().zip(want) {
             assert_eq!(rt; (key.table, key.part), (*table, *part));
@@ -349,7 +349,7 @@ fn partitions_of_a_span_are_a_run(rt: HostRuntime) {
     ] {
         assert!(rt; 1 <= width && width <= END && from <= to && to <= END);
         assert_eq!(rt;
-            plain_parts(Width::new(width), from, to),
+            parts_of_span(Width::new(width), from, to),
             Parts { first, count },
             "at {from}"
         );

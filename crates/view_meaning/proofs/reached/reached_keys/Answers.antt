@@ -5,7 +5,7 @@ use Rattle.std.proofs.lemmas.Iterator.Consumers.{YieldsList-turn, YieldsList-end
 use Rattle.view_meaning.specs.PartLists.{lists_of}
 use Rattle.view_meaning.proofs.PartListLemmas.{AreBrought-at, length-lists_of}
 use Rattle.view_meaning.proofs.ReachedListLemmas.{AreInTime-AllReached, AreUpTo-more, has-reached, reached_of-all}
-use Rattle.view_meaning.proofs.reached.plain_reached.Goals as goal
+use Rattle.view_meaning.proofs.reached.reached_keys.Goals as goal
 
 pub push_above-requires-clause-in_time : goal.push_above-requires-clause-in_time
 push_above-requires-clause-in_time c =

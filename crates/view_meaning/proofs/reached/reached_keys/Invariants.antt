@@ -1,7 +1,7 @@
 use Rattle.std.proofs.Common.{◌≡◌, length}
 use Rattle.std.specs.Prelude.{vec_len}
 use Rattle.view_meaning.specs.PartLists.{AreUpTo, lists_of}
-use Rattle.view_meaning.proofs.reached.plain_reached.Given as goal
+use Rattle.view_meaning.proofs.reached.reached_keys.Given as goal
 
 -- the lists and the keys are those of the tables so far
 abbrev pub invariant-loop-parts : goal.invariant-loop-parts

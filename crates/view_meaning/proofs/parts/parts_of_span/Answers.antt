@@ -1,6 +1,6 @@
 use Rattle.std.proofs.Common.{arith}
 use Rattle.view_meaning.proofs.PartitionLemmas.{parts_met-empty, parts_met-run}
-use Rattle.view_meaning.proofs.parts.plain_parts.Goals as goal
+use Rattle.view_meaning.proofs.parts.parts_of_span.Goals as goal
 
 pub returns-then-from-to-clause-exact : goal.returns-then-from-to-clause-exact
 returns-then-from-to-clause-exact c =
