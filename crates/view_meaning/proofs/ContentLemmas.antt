@@ -1,7 +1,7 @@
 -- The content of a version against the value from scratch: `settled_values`. Content, value and
 -- settledness go down through the tables alike, so they are compared within one depth.
 use Rattle.std.proofs.Common.{◌≡◌, ◌∙◌, ℕ, zero, suc, ◌+◌, List, [], ◌∷◌, ◌++◌, length, take, get_or, refl, sym, ap, map, inl, inr, arith}
-use Rattle.std.specs.Prelude.{Bool, true, false, not, Option, Some, None, All, flat_map, slice_get, if◌then◌else◌}
+use Rattle.std.specs.Prelude.{true, false, not, Option, Some, None, All, flat_map, slice_get, if◌then◌else◌}
 use Rattle.std.specs.List.{list_all}
 use Rattle.std.specs.Cmp.Lexicographic.{same_text}
 use Rattle.std.proofs.lemmas.Bool.{cases_Bool, and_parts, not-true, not-false}
@@ -28,24 +28,9 @@ use Rattle.view_meaning.specs.Versions.{touches, loads_after, raw_version, is_ra
 use Rattle.view_meaning.specs.Values.{joined, value_over, value_within, value}
 use Rattle.view_meaning.specs.Staleness.{is_stale, is_settled_within}
 use Rattle.view_meaning.specs.Contents.{rows_kept, loads_kept, raw_content, install_content, view_content, content_over, content_within, HasSettledValues}
-use Rattle.view_meaning.proofs.FilterLemmas.{filter-not_found}
+use Rattle.view_meaning.proofs.ListLemmas.{flat_map-agree, All-map_agree, flat_map-none, All-joined, flat_map-cons_if, length-cons_if, filter-not_found}
 use Rattle.view_meaning.proofs.RawLemmas.{cells_where-append, version-raw}
-use Rattle.view_meaning.proofs.SourceLemmas.{All-joined, All-map_agree, flat_map-agree, flat_map-none}
 use Rattle.view_meaning.proofs.VersionLemmas.{last_place-none, nth_place-last, version-view}
-
--- a list in front, where a test passes, makes the joined lists longer by it, or is empty
-flat_map-cons_if : {X : Type 0} (test : Bool) (first : List X) (rest : List (List X))
-    → (test ≡ false → first ≡ [])
-    → flat_map (λ xs. xs) (if test then first ∷ rest else rest)
-    ≡ first ++ flat_map (λ xs. xs) rest
-flat_map-cons_if true first rest none = refl
-flat_map-cons_if false first rest none = rw (none refl) refl
-
--- an element in front, where a test passes, counts
-length-cons_if : {X : Type 0} (test : Bool) (first : X) (rest : List X)
-    → length (if test then first ∷ rest else rest) ≡ (if test then 1 else 0) + length rest
-length-cons_if true first rest = omega arith
-length-cons_if false first rest = omega arith
 
 -- there are rows of each delivery that keeps one in the partition
 pub length-loads_kept : (desc : DescOf) (key : Key) (before accepted : List DeliveryOf)

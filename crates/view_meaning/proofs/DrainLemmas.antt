@@ -20,8 +20,8 @@ use Rattle.view_meaning.specs.Versions.{is_raw, last_place}
 use Rattle.view_meaning.specs.Staleness.{is_stale, is_settled}
 use Rattle.view_meaning.specs.LegalJournals.{MayInstall, IsLegal}
 use Rattle.view_meaning.specs.Drains.{all_view_keys, unsettled, with_install, drained}
+use Rattle.view_meaning.proofs.ListLemmas.{AllPairs-front, AllPairs-behind, AllPairs-before}
 use Rattle.view_meaning.proofs.AmongLemmas.{is_key, is_among, IsBefore, is_key-itself, same-is_key, is_among-behind, is_among-before, is_among-earlier, All-is_among, IsBefore-table, IsBefore-le}
-use Rattle.view_meaning.proofs.OrderLemmas.{AllPairs-front, AllPairs-behind, AllPairs-before}
 use Rattle.view_meaning.proofs.KeyLemmas.{sources_of-parts, sources_of-none, AllPairs-all_view_keys, all_view_keys-not_raw, all_view_keys-parts}
 use Rattle.view_meaning.proofs.SourceLemmas.{sources_of-earlier}
 use Rattle.view_meaning.proofs.LegalLemmas.{IsLegal-push, MayInstall-last, last_place-le}

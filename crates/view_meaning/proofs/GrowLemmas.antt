@@ -1,6 +1,6 @@
 -- The content of a version stays as the journal grows: `content_within-take`.
 use Rattle.std.proofs.Common.{◌≡◌, ◌∙◌, ℕ, zero, suc, ◌<◌, ◌≤◌, List, [], ◌∷◌, ◌++◌, length, take, drop, get_or, refl, sym, ap, inl, inr, arith}
-use Rattle.std.specs.Prelude.{Bool, true, false, Option, Some, None, flat_map, slice_get, if◌then◌else◌}
+use Rattle.std.specs.Prelude.{Option, Some, None, flat_map, slice_get, if◌then◌else◌}
 use Rattle.std.proofs.lemmas.Bool.{cases_Bool}
 use Rattle.std.proofs.lemmas.List.{append-nil, append_assoc, get_or_append_left, take-append-drop, take-append-le}
 use Rattle.depot_cell.specs.declared.cell.Cell.{Cell}
@@ -16,18 +16,12 @@ use Rattle.view_meaning.specs.Versions.{touches, raw_version, install_places, is
 use Rattle.view_meaning.specs.Values.{joined}
 use Rattle.view_meaning.specs.LegalJournals.{IsLegal}
 use Rattle.view_meaning.specs.Contents.{rows_kept, loads_kept, raw_content, install_content, view_content, content_over, content_within}
+use Rattle.view_meaning.proofs.ListLemmas.{append-cons_if}
 use Rattle.view_meaning.proofs.JournalLemmas.{accepted-append}
 use Rattle.view_meaning.proofs.RawLemmas.{version-raw}
 use Rattle.view_meaning.proofs.VersionLemmas.{install_places-append, version-view, version-take-le}
 use Rattle.view_meaning.proofs.LegalLemmas.{AreWithin, IsLegal-take, install_places-le}
 use Rattle.view_meaning.proofs.ContentLemmas.{length-loads_kept, operation-joined}
-
--- a list with an element in front, where a test passes, goes on as it does without it
-append-cons_if : {X : Type 0} (test : Bool) (first : X) (rest more : List X)
-    → (if test then first ∷ (rest ++ more) else rest ++ more)
-    ≡ (if test then first ∷ rest else rest) ++ more
-append-cons_if true first rest more = refl
-append-cons_if false first rest more = refl
 
 -- the rows of the deliveries of two lists are those of the first, then those of the second
 loads_kept-append : (desc : DescOf) (key : Key) (before accepted more : List DeliveryOf)

@@ -14,9 +14,8 @@ use Rattle.view_meaning.specs.Journal.{accepted}
 use Rattle.view_meaning.specs.Versions.{install_places, is_raw, version, last_place, current, recorded}
 use Rattle.view_meaning.specs.Staleness.{is_stale}
 use Rattle.view_meaning.specs.Drains.{with_install}
+use Rattle.view_meaning.proofs.ListLemmas.{map-agree, All-map_agree, AllPairs-head, AllPairs-tail}
 use Rattle.view_meaning.proofs.AmongLemmas.{is_key, is_among, IsBefore, same-is_key, is_among-behind, is_among-earlier}
-use Rattle.view_meaning.proofs.OrderLemmas.{AllPairs-head, AllPairs-tail}
-use Rattle.view_meaning.proofs.SourceLemmas.{All-map_agree, map-agree}
 use Rattle.view_meaning.proofs.VersionLemmas.{install_places-append, version-view, version-le, version-take-le, version-stay, last_place-Install, recorded-stay}
 use Rattle.view_meaning.proofs.SettledLemmas.{is_stale-current, recorded-current}
 

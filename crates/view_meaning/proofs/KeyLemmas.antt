@@ -7,7 +7,7 @@ use Rattle.std.proofs.Math.Nat.{mul-le-mul_left}
 use Rattle.std.proofs.lemmas.Bool.{cases_Bool, both_ways, false≢true, cond_both, eq-eqb, eqb-true, ltb-true, lt-ltb}
 use Rattle.std.proofs.lemmas.Map.Views.{any-filter_same}
 use Rattle.std.proofs.lemmas.Option.{slice_get_within}
-use Rattle.std.proofs.lemmas.List.Elements.{All-nil, All-map, filter_passes}
+use Rattle.std.proofs.lemmas.List.Elements.{All-nil, All-map, filter_passes, All-weaker}
 use Rattle.std.proofs.lemmas.List.Folds.{list_any_at}
 use Rattle.std.proofs.lemmas.List.FromFn.{length-range_with_len, get_or-range_with_len}
 use Rattle.std.proofs.lemmas.List.Kept.{AllPairs-filter}
@@ -21,10 +21,8 @@ use Rattle.table_desc.specs.Time.{END}
 use Rattle.view_meaning.specs.Partitions.{start_of, end_of, is_met, parts_met, all_parts, is_part, tick_at_least, keys_read, keys_below, sources_of}
 use Rattle.view_meaning.specs.Versions.{is_raw, is_raw_kind}
 use Rattle.view_meaning.specs.Drains.{view_keys, all_view_keys}
+use Rattle.view_meaning.proofs.ListLemmas.{list_any-agree, list_any-map, list_any-flat_map, All-flat_map, All-range_with_len, list_any-range_with_len, AllPairs-append, AllPairs-map, AllPairs-range_with_len}
 use Rattle.view_meaning.proofs.AmongLemmas.{is_key, is_among, IsBefore}
-use Rattle.view_meaning.proofs.FilterLemmas.{All-range_with_len}
-use Rattle.view_meaning.proofs.SourceLemmas.{All-follow, All-flat_map, list_any-agree, list_any-flat_map, list_any-map}
-use Rattle.view_meaning.proofs.OrderLemmas.{AllPairs-append, AllPairs-map, AllPairs-range_with_len}
 
 -- what shares a tick with a span of time shares one with time
 is_met-wider : (width from to part : ℕ) → is_met width from to part ≡ true → to ≤ END
@@ -44,7 +42,7 @@ keys_read-parts desc width part src =
     All-map (λ source. is_part desc source ≡ true)
     (λ source. record { table = src.table; part = source })
     (parts_met source_width from to)
-    (All-follow (λ source. is_met source_width from to source ≡ true)
+    (All-weaker (λ source. is_met source_width from to source ≡ true)
     (λ source. is_met source_width 0 END source ≡ true)
     (λ source met. is_met-wider source_width from to source met (omega arith))
     (parts_met source_width from to)
@@ -156,15 +154,6 @@ pub all_view_keys-parts : (desc : DescOf)
 all_view_keys-parts desc =
     All-view_keys_of (λ key. is_part desc key ≡ true) desc 0 (length desc.tables)
     (λ number part table _ found view met. rw found met)
-
--- a number below the bound is one of those below it
-list_any-range_with_len : (number bound : ℕ) → number < bound
-    → list_any (λ other. other == number) (range_with_len 0 bound) ≡ true
-list_any-range_with_len number bound below =
-    list_any_at (λ other. other == number) (range_with_len 0 bound) number 0
-    (omega (arith, length-range_with_len 0 bound))
-    (eq-eqb (get_or (range_with_len 0 bound) number 0) number
-    (omega (arith, get_or-range_with_len 0 bound number 0 below)))
 
 -- a partition that shares a tick with a span is among those that do
 list_any-parts_met : (width from to part : ℕ) → is_met width from to part ≡ true

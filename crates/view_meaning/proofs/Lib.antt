@@ -1,11 +1,10 @@
 pub mod BoolLemmas
-pub mod FilterLemmas
+pub mod ListLemmas
 pub mod PartitionLemmas
 pub mod JournalLemmas
 pub mod SetAsideLemmas
 pub mod RawLemmas
 pub mod SourceLemmas
-pub mod OrderLemmas
 pub mod AmongLemmas
 pub mod KeyLemmas
 pub mod VersionLemmas

@@ -9,8 +9,8 @@ use Rattle.std.proofs.lemmas.List.Kept.{Contains-dedup_nat, Contains-from_dedup}
 use Rattle.std.proofs.lemmas.Map.Views.{Contains-from_any, list_any-from_Contains}
 use Rattle.std.proofs.lemmas.Cmp.{nat_eq_equiv}
 use Rattle.view_meaning.specs.PartLists.{has}
+use Rattle.view_meaning.proofs.ListLemmas.{AllPairs-head, AllPairs-tail}
 use Rattle.view_meaning.proofs.BoolLemmas.{same-answer}
-use Rattle.view_meaning.proofs.OrderLemmas.{AllPairs-head, AllPairs-tail}
 
 -- a filtered list has the numbers of the list that pass
 pub has-filter : (test : ℕ → Bool) (xs : List ℕ) (number : ℕ)

@@ -18,10 +18,10 @@ use Rattle.table_desc.specs.Time.{END}
 use Rattle.view_meaning.specs.Partitions.{start_of, end_of, is_met, parts_met, source_parts, keys_read}
 use Rattle.view_meaning.specs.Reached.{brings}
 use Rattle.view_meaning.specs.PartLists.{AreBrought, AreInTime, Gains, has, is_listed, key_of, lists_of, parts_at}
+use Rattle.view_meaning.proofs.ListLemmas.{list_any-agree, list_any-map}
 use Rattle.view_meaning.proofs.BoolLemmas.{same-answer}
 use Rattle.view_meaning.proofs.NumberLemmas.{has-Contains, has-filter, has-range_with_len, list_any-has}
 use Rattle.view_meaning.proofs.PartitionLemmas.{is_met-div}
-use Rattle.view_meaning.proofs.SourceLemmas.{list_any-agree, list_any-map}
 
 -- there are as many lists as vectors
 pub length-lists_of : (lists : List (Vec ℕ Global)) → length (lists_of lists) ≡ length lists

@@ -8,8 +8,8 @@ use Rattle.std.proofs.lemmas.Nat.{div-add-mod', le-div}
 use Rattle.table_desc.specs.Time.{IsWidth}
 use Rattle.table_desc.specs.Time.{END}
 use Rattle.view_meaning.specs.Partitions.{start_of, end_of, is_met, parts_met}
+use Rattle.view_meaning.proofs.ListLemmas.{filter-none, filter-range_with_len}
 use Rattle.view_meaning.proofs.BoolLemmas.{same-answer}
-use Rattle.view_meaning.proofs.FilterLemmas.{filter-none, filter-range_with_len}
 
 -- an empty span shares a tick with no partition
 is_met-empty : (width from to part : ℕ) → to ≤ from → is_met width from to part ≡ false

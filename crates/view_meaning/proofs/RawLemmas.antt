@@ -1,7 +1,7 @@
 -- The rows and the version of a raw table's partition, as deliveries are accepted one by one. For
 -- one delivery more take the lemmas on `append`, and in a loop over deliveries those with `more`.
 use Rattle.std.proofs.Common.{◌≡◌, ◌∙◌, ℕ, ◌+◌, ◌<◌, List, [], ◌∷◌, ◌++◌, length, take, get_or, refl, sym, ap, map}
-use Rattle.std.specs.Prelude.{Bool, Some, None, true, false, ◌==◌, ◌||◌, filter, slice_get, if◌then◌else◌}
+use Rattle.std.specs.Prelude.{Bool, Some, None, true, false, ◌==◌, filter, slice_get, if◌then◌else◌}
 use Rattle.std.specs.List.{list_any}
 use Rattle.std.proofs.lemmas.List.{append-nil, append_assoc, map-append, take_more}
 use Rattle.std.proofs.lemmas.List.Elements.{filter-append, filter_agree}
@@ -19,15 +19,8 @@ use Rattle.view_meaning.specs.RawValues.{lies_in, raw_value}
 use Rattle.view_meaning.specs.TableRows.{lies_in_table, cells_where}
 use Rattle.view_meaning.specs.SetAside.{kept, kept_rows}
 use Rattle.view_meaning.specs.Versions.{touches, loads_after, raw_version, is_raw, version}
-use Rattle.view_meaning.proofs.FilterLemmas.{filter-none}
+use Rattle.view_meaning.proofs.ListLemmas.{list_any-agree, filter-none}
 use Rattle.view_meaning.proofs.SetAsideLemmas.{kept-append, kept_rows-all}
-
--- two tests that agree on each element find one alike
-list_any-agree : {X : Type 0} (test other : X → Bool) → ((x : X) → test x ≡ other x)
-    → (xs : List X) → list_any test xs ≡ list_any other xs
-list_any-agree test other agree [] = refl
-list_any-agree test other agree (x ∷ xs) =
-    rw (agree x) (ap (λ (rest : Bool). other x || rest) (list_any-agree test other agree xs))
 
 -- the cells of two lists of rows are those of the first, then those of the second
 pub cells_where-append : (test : DRow → Bool) (rows more : List DRow)
@@ -132,8 +125,9 @@ raw_version-more desc accepted key table index delivery has_row found below read
     ∙ raw_version-append desc (take index accepted) key delivery
     ∙ ap (λ (test : Bool).
     raw_version desc (take index accepted) key + (if test then 1 else 0))
-    (list_any-agree (lies_in desc key) (lies_in_table table key)
-    (lies_in-table desc key table found) delivery.rows
+    (list_any-agree (lies_in desc key) (lies_in_table table key) delivery.rows
+    (λ index default _.
+    lies_in-table desc key table found (get_or delivery.rows index default))
     ∙ sym tested)
 
 -- where there is no such table there are no rows

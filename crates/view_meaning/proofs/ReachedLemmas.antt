@@ -4,6 +4,7 @@ use Rattle.std.specs.Prelude.{Bool, true, false, ◌||◌, ◌==◌, Option, Som
 use Rattle.std.specs.List.{list_any}
 use Rattle.std.proofs.lemmas.Bool.{and_parts, and_right, both_ways, or_from, leb-true, ltb-false, ltb-true, false_from_ne_true, true_from_ne_false}
 use Rattle.std.proofs.lemmas.List.Folds.{list_any_none}
+use Rattle.std.proofs.lemmas.List.Elements.{All-weaker}
 use Rattle.table_desc.specs.declared.table.Key.{Key}
 use Rattle.table_desc.specs.declared.view.Src.{Src}
 use Rattle.table_desc.specs.declared.delivery.DRow.{DRow}
@@ -17,9 +18,10 @@ use Rattle.view_meaning.specs.Journal.{row_tick}
 use Rattle.view_meaning.specs.RawValues.{covers_tick, holds_cells, lies_in}
 use Rattle.view_meaning.specs.Reached.{brings, is_reached, is_reached_within}
 use Rattle.view_meaning.specs.PartLists.{key_of}
+use Rattle.view_meaning.proofs.ListLemmas.{flat_map-agree, flat_map-none, list_any-agree}
 use Rattle.view_meaning.proofs.PartitionLemmas.{parts_met-empty, start_of-next}
 use Rattle.view_meaning.proofs.PartListLemmas.{source_parts-aligned}
-use Rattle.view_meaning.proofs.SourceLemmas.{All-follow, flat_map-agree, flat_map-none, list_any-agree, sources_of-earlier, within-enough}
+use Rattle.view_meaning.proofs.SourceLemmas.{sources_of-earlier, within-enough}
 
 -- whether deliveries bring a row of the partition, or one of its sources passes a test
 abbrev reached_above : DescOf → List DeliveryOf → (Key → Bool) → Key → Bool
@@ -34,7 +36,7 @@ reached_above-agree : (desc : DescOf) (deliveries : List DeliveryOf) → HasEarl
 reached_above-agree desc deliveries earlier below other key agree =
     ap (λ (rest : Bool). list_any (brings key desc) deliveries || rest)
     (list_any-agree below other (sources_of desc key)
-    (All-follow (λ (source : Key). source.table < key.table)
+    (All-weaker (λ (source : Key). source.table < key.table)
     (λ source. below source ≡ other source) agree (sources_of desc key)
     (sources_of-earlier desc key earlier)))
 
@@ -127,7 +129,7 @@ sources_of-outside desc key aligned outside =
     at_table None aligned outside = refl
     at_table (Some table) aligned outside =
         flat_map-agree (keys_read desc table.width key.part) (λ _. []) (kind_sources table.kind)
-        (All-follow (λ (src : Src). IsAligned table.width (table_width desc src.table) src.span)
+        (All-weaker (λ (src : Src). IsAligned table.width (table_width desc src.table) src.span)
         (λ src. keys_read desc table.width key.part src ≡ [])
         (λ src. keys_read-outside desc table.width key.part src outside)
         (kind_sources table.kind) (aligned table refl))

@@ -1,13 +1,13 @@
 -- The lists of reached partitions' numbers, as the program that computes them makes one after the
 -- other, and the keys that it tells of them.
-use Rattle.std.proofs.Common.{◌≡◌, ◌∙◌, ℕ, ◌+◌, ◌<◌, List, [], ◌∷◌, ◌++◌, length, map, cond, refl, ap, sym, arith, ⊎_elim}
+use Rattle.std.proofs.Common.{◌≡◌, ◌∙◌, ℕ, ◌+◌, ◌<◌, List, [], ◌∷◌, ◌++◌, length, map, refl, ap, sym, arith, ⊎_elim}
 use Rattle.std.specs.Prelude.{Bool, true, false, ◌&&◌, ◌||◌, Option, Some, All, flat_map, max, min, slice_get, if◌then◌else◌}
 use Rattle.std.specs.List.{filter, list_any, range_with_len}
 use Rattle.std.specs.List.Sorted.{IsStrictlyIncreasing}
 use Rattle.std.proofs.lemmas.Bool.{and_parts, and_from, cases_lt, false≢true, ltb-true}
 use Rattle.std.proofs.lemmas.List.{append-nil, get_or_append_left, get_or_past, length-append}
 use Rattle.std.proofs.lemmas.List.Concat.{flat_map-append}
-use Rattle.std.proofs.lemmas.List.Elements.{filter-append}
+use Rattle.std.proofs.lemmas.List.Elements.{All-weaker}
 use Rattle.std.proofs.lemmas.List.Kept.{AllPairs-filter, AllPairs-from_increasing}
 use Rattle.std.proofs.Math.Seq.{get_or-append_seam}
 use Rattle.table_desc.specs.declared.table.Key.{Key}
@@ -21,13 +21,13 @@ use Rattle.view_meaning.specs.Versions.{is_raw_kind}
 use Rattle.view_meaning.specs.Drains.{view_keys}
 use Rattle.view_meaning.specs.Reached.{brings, is_reached, reached}
 use Rattle.view_meaning.specs.PartLists.{AllReached, AreInTime, AreUpTo, Gains, has, is_listed, key_of, keys_of_view, reached_of}
+use Rattle.view_meaning.proofs.ListLemmas.{list_any-agree, range_with_len-add, filter-map, filter-flat_map}
 use Rattle.view_meaning.proofs.BoolLemmas.{same-answer}
-use Rattle.view_meaning.proofs.FilterLemmas.{range_with_len-add}
 use Rattle.view_meaning.proofs.KeyLemmas.{AllPairs-all_parts}
 use Rattle.view_meaning.proofs.NumberLemmas.{has-filter, rising-same}
 use Rattle.view_meaning.proofs.PartListLemmas.{has-parts_met}
 use Rattle.view_meaning.proofs.ReachedLemmas.{is_part-is_reached, is_reached-step}
-use Rattle.view_meaning.proofs.SourceLemmas.{All-follow, list_any-agree, sources_of-earlier}
+use Rattle.view_meaning.proofs.SourceLemmas.{sources_of-earlier}
 
 -- a partition that shares a tick with time begins in it
 start-is_part : (width part : ℕ) → is_met width 0 END part ≡ true → start_of width part < END
@@ -62,7 +62,7 @@ has-reached desc deliveries lists number table brought gained earlier there next
     let brought_any = list_any (brings key desc) deliveries in
     let same : All (λ source. is_listed lists source ≡ is_reached desc deliveries source)
     (sources_of desc key) =
-    All-follow (λ (source : Key). source.table < number)
+    All-weaker (λ (source : Key). source.table < number)
     (λ source. is_listed lists source ≡ is_reached desc deliveries source)
     (λ source before. reached source.table source.part (omega arith)) (sources_of desc key)
     (sources_of-earlier desc key earlier) in
@@ -92,28 +92,6 @@ AllReached-more desc deliveries lists parts reached own table part within = ⊎_
 has-all_parts : (width part : ℕ) → has (all_parts width) part ≡ is_met width 0 END part
 unfolding all_parts
 has-all_parts width part = has-parts_met width 0 END part
-
--- a test of mapped elements keeps the images of those whose images pass
-filter-map : {X Y : Type 0} (test : Y → Bool) (f : X → Y) (xs : List X)
-    → filter test (map f xs) ≡ map f (filter (λ x. test (f x)) xs)
-filter-map test f [] = refl
-filter-map test f (x ∷ xs) =
-    rw (filter-map test f xs) (each (test (f x)))
-  where
-    each : (passes : Bool)
-        → cond passes (f x ∷ map f (filter (λ x. test (f x)) xs))
-        (map f (filter (λ x. test (f x)) xs))
-        ≡ map f (cond passes (x ∷ filter (λ x. test (f x)) xs) (filter (λ x. test (f x)) xs))
-    each true = refl
-    each false = refl
-
--- a test keeps of joined lists what it keeps of each
-filter-flat_map : {X Y : Type 0} (test : Y → Bool) (f : X → List Y) (xs : List X)
-    → filter test (flat_map f xs) ≡ flat_map (λ x. filter test (f x)) xs
-filter-flat_map test f [] = refl
-filter-flat_map test f (x ∷ xs) =
-    filter-append test (f x) (flat_map f xs)
-    ∙ ap (λ rest. filter test (f x) ++ rest) (filter-flat_map test f xs)
 
 -- the keys told of a view are those of its partitions that are reached
 pub keys_of_view-reached : (desc : DescOf) (deliveries : List DeliveryOf) (number : ℕ)

@@ -5,6 +5,7 @@ use Rattle.std.specs.List.{list_all}
 use Rattle.std.specs.Cmp.Lexicographic.{pointwise, bytes_decides}
 use Rattle.std.proofs.lemmas.Bool.{not-false, not-true, not_from_false, and_from, and_parts}
 use Rattle.std.proofs.lemmas.List.Sums.{AllPass-from_list_all, list_all-from_AllPass}
+use Rattle.std.proofs.lemmas.List.Elements.{All-weaker}
 use Rattle.table_desc.specs.declared.table.Key.{Key}
 use Rattle.table_desc.specs.Descriptions.{DescOf}
 use Rattle.view_meaning.specs.declared.journal.Entry.{Entry}
@@ -12,7 +13,8 @@ use Rattle.table_desc.specs.Sources.{HasEarlierSources}
 use Rattle.view_meaning.specs.Partitions.{sources_of}
 use Rattle.view_meaning.specs.Versions.{current, recorded}
 use Rattle.view_meaning.specs.Staleness.{is_stale, is_settled, is_settled_within}
-use Rattle.view_meaning.proofs.SourceLemmas.{list_all-agree, All-follow, sources_of-earlier, within-enough}
+use Rattle.view_meaning.proofs.ListLemmas.{list_all-agree}
+use Rattle.view_meaning.proofs.SourceLemmas.{sources_of-earlier, within-enough}
 
 -- a partition whose last install recorded the versions that its sources have is not stale
 pub is_stale-current : (desc : DescOf) (journal : List Entry) (key : Key)
@@ -37,7 +39,7 @@ is_settled_within-enough desc journal earlier =
     (λ depth key. refl)
     (λ below other key agree. ap (λ (rest : Bool). not (is_stale desc journal key) && rest)
     (list_all-agree below other (sources_of desc key)
-    (All-follow (λ (source : Key). source.table < key.table)
+    (All-weaker (λ (source : Key). source.table < key.table)
     (λ source. below source ≡ other source) agree (sources_of desc key)
     (sources_of-earlier desc key earlier))))
 
@@ -50,7 +52,7 @@ is_settled-step desc journal key earlier =
     ap (λ (rest : Bool). not (is_stale desc journal key) && rest)
     (list_all-agree (is_settled_within key.table desc journal) (is_settled desc journal)
     (sources_of desc key)
-    (All-follow (λ (source : Key). source.table < key.table)
+    (All-weaker (λ (source : Key). source.table < key.table)
     (λ source. is_settled_within key.table desc journal source ≡ is_settled desc journal source)
     (λ source before. is_settled_within-enough desc journal earlier key.table (suc source.table)
     source before (omega arith))

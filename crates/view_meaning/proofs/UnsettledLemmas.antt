@@ -1,12 +1,13 @@
 -- What loads at the end of a journal leave unsettled: where all was settled before, just the
 -- partitions of views that they reach.
-use Rattle.std.proofs.Common.{◌≡◌, ◌∙◌, ℕ, zero, suc, ◌+◌, ◌<◌, ◌≤◌, List, [], ◌∷◌, ◌++◌, length, get_or, map, filter, cond, refl, ap, sym, inl, inr, arith}
+use Rattle.std.proofs.Common.{◌≡◌, ◌∙◌, ℕ, zero, suc, ◌+◌, ◌<◌, ◌≤◌, List, [], ◌∷◌, ◌++◌, length, get_or, map, refl, ap, sym, inl, inr, arith}
 use Rattle.std.specs.Prelude.{Bool, true, false, not, ◌&&◌, ◌||◌, ◌==◌, Option, Some, None, All, nat_eq, slice_get, if◌then◌else◌}
 use Rattle.std.specs.List.{list_all, list_any}
 use Rattle.std.specs.Cmp.Lexicographic.{pointwise}
 use Rattle.std.proofs.lemmas.Bool.{and_right, cases_Bool, eq-eqb, ne_eqb, false≢true}
 use Rattle.std.proofs.lemmas.List.{append-nil, append_assoc}
-use Rattle.std.proofs.lemmas.List.Elements.{All-head, All-tail}
+use Rattle.std.proofs.Math.Bool.{not-not}
+use Rattle.view_meaning.proofs.BoolLemmas.{not-or}
 use Rattle.table_desc.specs.declared.table.Key.{Key}
 use Rattle.table_desc.specs.declared.delivery.DRow.{DRow}
 use Rattle.table_desc.specs.Deliveries.{DeliveryOf}
@@ -24,63 +25,15 @@ use Rattle.view_meaning.specs.Staleness.{is_stale, is_settled}
 use Rattle.view_meaning.specs.LegalJournals.{IsLegal}
 use Rattle.view_meaning.specs.Drains.{all_view_keys, unsettled}
 use Rattle.view_meaning.specs.Reached.{brings, is_reached, reached}
+use Rattle.view_meaning.proofs.ListLemmas.{list_all-agree, list_all-not, list_all-and, pointwise-map, filter-agree}
 use Rattle.view_meaning.proofs.JournalLemmas.{accepted-append, accepted-map-Load}
 use Rattle.view_meaning.proofs.KeyLemmas.{all_view_keys-not_raw, all_view_keys-parts, sources_of-parts}
 use Rattle.view_meaning.proofs.LegalLemmas.{last_place-le}
 use Rattle.view_meaning.proofs.RawLemmas.{raw_version-append, version-raw}
 use Rattle.view_meaning.proofs.ReachedLemmas.{brings-none, is_reached-step}
 use Rattle.view_meaning.proofs.SettledLemmas.{is_settled-step, is_stale-settled, recorded-current}
-use Rattle.view_meaning.proofs.SourceLemmas.{list_all-agree, sources_of-earlier}
+use Rattle.view_meaning.proofs.SourceLemmas.{sources_of-earlier}
 use Rattle.view_meaning.proofs.VersionLemmas.{install_places-stay, raw_version-le, recorded-stay, version-view}
-
--- a test that is turned round twice is the test
-not_not : (test : Bool) → not (not test) ≡ test
-not_not true = refl
-not_not false = refl
-
--- neither of two tests passes where not one of them does
-not-or : (test other : Bool) → (not test && not other) ≡ not (test || other)
-not-or true other = refl
-not-or false other = refl
-
--- all elements pass a test where none passes the test turned round
-list_all-not : {X : Type 0} (test : X → Bool) (xs : List X)
-    → list_all (λ x. not (test x)) xs ≡ not (list_any test xs)
-list_all-not test [] = refl
-list_all-not test (x ∷ xs) =
-    ap (λ (rest : Bool). not (test x) && rest) (list_all-not test xs)
-    ∙ not-or (test x) (list_any test xs)
-
--- all elements pass two tests where all pass each
-list_all-and : {X : Type 0} (test other : X → Bool) (xs : List X)
-    → (list_all test xs && list_all other xs) ≡ list_all (λ x. test x && other x) xs
-list_all-and test other [] = refl
-list_all-and test other (x ∷ xs) =
-    crossed (test x) (list_all test xs) (other x) (list_all other xs)
-    ∙ ap (λ (rest : Bool). (test x && other x) && rest) (list_all-and test other xs)
-  where
-    crossed : (first rest second last : Bool)
-        → ((first && rest) && (second && last)) ≡ ((first && second) && (rest && last))
-    crossed false rest second last = refl
-    crossed true false false last = refl
-    crossed true false true last = refl
-    crossed true true second last = refl
-
--- two lists of numbers that are made of one are the same where each pair is
-pointwise-map : {X : Type 0} (f g : X → ℕ) (xs : List X)
-    → pointwise nat_eq (map f xs) (map g xs) ≡ list_all (λ x. nat_eq (f x) (g x)) xs
-pointwise-map f g [] = refl
-pointwise-map f g (x ∷ xs) =
-    ap (λ (rest : Bool). nat_eq (f x) (g x) && rest) (pointwise-map f g xs)
-
--- two tests that agree on each element keep the same ones
-filter-agree : {X : Type 0} (test other : X → Bool) (xs : List X)
-    → All (λ x. test x ≡ other x) xs → filter test xs ≡ filter other xs
-filter-agree test other [] agree = refl
-filter-agree test other (x ∷ xs) agree =
-    rw (All-head (λ x. test x ≡ other x) x xs agree)
-    (ap (λ rest. cond (other x) (x ∷ rest) rest)
-    (filter-agree test other xs (All-tail (λ x. test x ≡ other x) x xs agree)))
 
 -- a journal with these deliveries loaded at its end
 abbrev with_loads : List Entry → List DeliveryOf → List Entry
@@ -184,7 +137,7 @@ is_stale-with_loads desc journal deliveries key earlier legal settled =
     recorded-stay desc journal (map entry.Load deliveries) key
     (last_place-le desc journal key legal) (install_places-Load deliveries key)
     ∙ recorded-current desc journal key (is_stale-settled desc journal key earlier settled) in
-    not_not (pointwise nat_eq (recorded desc loaded key) (current desc loaded key))
+    not-not (pointwise nat_eq (recorded desc loaded key) (current desc loaded key))
     ∙ ap (λ (versions : List ℕ). pointwise nat_eq versions (current desc loaded key)) before
     ∙ pointwise-map (version desc journal) (version desc loaded) sources
     ∙ list_all-agree (λ source. nat_eq (version desc journal source) (version desc loaded source))
@@ -235,7 +188,7 @@ unsettled-with_loads desc journal deliveries earlier legal settled =
     let above = list_any (is_reached desc deliveries) (sources_of desc key) in
     ap not (is_settled-with_loads (suc key.table) desc journal deliveries key earlier legal settled
     (omega arith) (all_view_keys-parts desc index default within))
-    ∙ not_not above
+    ∙ not-not above
     ∙ sym (is_reached-step desc deliveries key earlier
     ∙ ap (λ (brought : Bool). brought || above)
     (brings-not_raw desc deliveries key (all_view_keys-not_raw desc index default within))))

@@ -13,6 +13,7 @@ use Rattle.view_meaning.specs.declared.journal.Entry.{Entry}
 use Rattle.view_meaning.specs.declared.journal.Entry.TheVariants as entry
 use Rattle.view_meaning.specs.Journal.{accepted}
 use Rattle.view_meaning.specs.Versions.{loads_after, raw_version, installs, place_of, install_places, is_raw, version, nth_place, last_place, current, recorded}
+use Rattle.view_meaning.proofs.ListLemmas.{get_or-last}
 use Rattle.view_meaning.proofs.JournalLemmas.{accepted-append}
 
 -- the installs of a partition in two journals are those in the first, then those in the second
@@ -95,12 +96,6 @@ last_place-stay journal more key none =
 pub last_place-none : (journal : List Entry) (key : Key) → install_places journal key ≡ []
     → last_place journal key ≡ 0
 last_place-none journal key none = ap (λ (places : List ℕ). fold (λ _ place. place) 0 places) none
-
--- the last of some numbers is what a fold that keeps the newest ends in
-get_or-last : (first : ℕ) (later : List ℕ)
-    → get_or (first ∷ later) (length later) 0 ≡ fold (λ _ number. number) first later
-get_or-last first [] = refl
-get_or-last first (next ∷ later) = get_or-last next later
 
 -- the last install is the one that has all others before it
 pub nth_place-last : (journal : List Entry) (key : Key) (first : ℕ) (later : List ℕ)

@@ -1,0 +1,334 @@
+-- Facts on lists of anything, and on runs of numbers, that std does not have. Take
+-- `filter-range_with_len` where a test passes exactly on a run of numbers.
+use Rattle.std.proofs.Common.{◌≡◌, ◌∙◌, ℕ, zero, suc, ◌+◌, ◌-◌, ◌<◌, ◌≤◌, List, [], ◌∷◌, ◌++◌, length, take, drop, get_or, map, cond, refl, sym, ap, arith}
+use Rattle.std.specs.Prelude.{Bool, true, false, not, ◌&&◌, ◌||◌, ◌==◌, All, flat_map, fold, nat_eq, if◌then◌else◌}
+use Rattle.std.specs.List.{AllPairs, filter, list_all, list_any, range_with_len}
+use Rattle.std.specs.Cmp.Lexicographic.{pointwise}
+use Rattle.std.proofs.Math.Seq.{take-append_seam, drop-append_seam}
+use Rattle.std.proofs.lemmas.Bool.{or_parts, eq-eqb}
+use Rattle.std.proofs.lemmas.List.{append-nil, get_or-map, get_or_append_left, get_or_at, length-append}
+use Rattle.std.proofs.lemmas.List.Elements.{All-nil, All-cons, All-head, All-tail, All-map, All-append, All-same, All-take, All-drop, filter-append}
+use Rattle.std.proofs.lemmas.List.Folds.{list_any-append, list_any_at}
+use Rattle.std.proofs.lemmas.List.FromFn.{length-range_with_len, get_or-range_with_len}
+use Rattle.std.proofs.lemmas.List.Kept.{AllPairs-cons}
+use Rattle.view_meaning.proofs.BoolLemmas.{not-or}
+
+-- two functions that agree on each element of a list map it alike
+pub map-agree : {X Y : Type 0} (f g : X → Y) (xs : List X) → All (λ x. f x ≡ g x) xs
+    → map f xs ≡ map g xs
+map-agree f g [] agree = refl
+map-agree f g (x ∷ xs) agree =
+    rw (All-head (λ x. f x ≡ g x) x xs agree)
+    (ap (λ rest. g x ∷ rest) (map-agree f g xs (All-tail (λ x. f x ≡ g x) x xs agree)))
+
+-- and join the lists that they give alike
+pub flat_map-agree : {X Y : Type 0} (f g : X → List Y) (xs : List X) → All (λ x. f x ≡ g x) xs
+    → flat_map f xs ≡ flat_map g xs
+flat_map-agree f g [] agree = refl
+flat_map-agree f g (x ∷ xs) agree =
+    rw (All-head (λ x. f x ≡ g x) x xs agree)
+    (ap (λ rest. g x ++ rest) (flat_map-agree f g xs (All-tail (λ x. f x ≡ g x) x xs agree)))
+
+-- two functions that map a list alike agree on each element
+pub All-map_agree : {X Y : Type 0} (f g : X → Y) (xs : List X) → map f xs ≡ map g xs
+    → All (λ x. f x ≡ g x) xs
+All-map_agree f g xs same = λ index default within.
+    sym (get_or-map f xs index default (f default) within)
+    ∙ ap (λ ys. get_or ys index (f default)) same
+    ∙ get_or-map g xs index default (f default) within
+
+-- a function that makes an empty list of each element makes an empty one of all
+pub flat_map-none : {X Y : Type 0} (f : X → List Y) (xs : List X) → ((x : X) → f x ≡ [])
+    → flat_map f xs ≡ []
+flat_map-none f [] none = refl
+flat_map-none f (x ∷ xs) none = rw (none x) (flat_map-none f xs none)
+
+-- two tests that agree on each element pass all of them alike
+pub list_all-agree : {X : Type 0} (f g : X → Bool) (xs : List X) → All (λ x. f x ≡ g x) xs
+    → list_all f xs ≡ list_all g xs
+list_all-agree f g [] agree = refl
+list_all-agree f g (x ∷ xs) agree =
+    rw (All-head (λ x. f x ≡ g x) x xs agree)
+    (ap (λ rest. g x && rest) (list_all-agree f g xs (All-tail (λ x. f x ≡ g x) x xs agree)))
+
+-- and find one alike
+pub list_any-agree : {X : Type 0} (f g : X → Bool) (xs : List X) → All (λ x. f x ≡ g x) xs
+    → list_any f xs ≡ list_any g xs
+list_any-agree f g [] agree = refl
+list_any-agree f g (x ∷ xs) agree =
+    rw (All-head (λ x. f x ≡ g x) x xs agree)
+    (ap (λ rest. g x || rest) (list_any-agree f g xs (All-tail (λ x. f x ≡ g x) x xs agree)))
+
+-- a test finds an image where the test of images finds an element
+pub list_any-map : {X Y : Type 0} (test : Y → Bool) (f : X → Y) (xs : List X)
+    → list_any test (map f xs) ≡ list_any (λ x. test (f x)) xs
+list_any-map test f [] = refl
+list_any-map test f (x ∷ xs) =
+    ap (λ (rest : Bool). test (f x) || rest) (list_any-map test f xs)
+
+-- a test finds an element of joined lists where it finds one of some list
+pub list_any-flat_map : {X Y : Type 0} (test : Y → Bool) (f : X → List Y) (xs : List X)
+    → list_any test (flat_map f xs) ≡ list_any (λ x. list_any test (f x)) xs
+list_any-flat_map test f [] = refl
+list_any-flat_map test f (x ∷ xs) =
+    list_any-append test (f x) (flat_map f xs)
+    ∙ ap (λ (rest : Bool). list_any test (f x) || rest) (list_any-flat_map test f xs)
+
+-- what is true of all that is made of each element is true of all that is joined
+pub All-flat_map : {X Y : Type 0} (P : Y → Type 0) (f : X → List Y) (xs : List X)
+    → All (λ x. All P (f x)) xs → All P (flat_map f xs)
+All-flat_map P f [] all = λ index default within. absurd (omega arith)
+All-flat_map P f (x ∷ xs) all =
+    All-append P (f x) (flat_map f xs) (All-head (λ x. All P (f x)) x xs all)
+    (All-flat_map P f xs (All-tail (λ x. All P (f x)) x xs all))
+
+-- what is true of all of a joined list is true of the lists that it joins
+pub All-joined : {X Y : Type 0} (P : Y → Type 0) (f : X → List Y) (xs : List X)
+    → All P (flat_map f xs) → All (λ x. All P (f x)) xs
+All-joined P f [] all = All-nil (λ x. All P (f x))
+All-joined P f (x ∷ xs) all =
+    All-cons (λ x. All P (f x)) x xs
+    (All-same P (f x) (take (length (f x)) (flat_map f (x ∷ xs)))
+    (sym (take-append_seam (f x) (flat_map f xs)))
+    (All-take P (length (f x)) (flat_map f (x ∷ xs)) all))
+    (All-joined P f xs
+    (All-same P (flat_map f xs) (drop (length (f x)) (flat_map f (x ∷ xs)))
+    (sym (drop-append_seam (f x) (flat_map f xs)))
+    (All-drop P (length (f x)) (flat_map f (x ∷ xs)) all)))
+
+-- all elements pass a test where none passes the test turned round
+pub list_all-not : {X : Type 0} (test : X → Bool) (xs : List X)
+    → list_all (λ x. not (test x)) xs ≡ not (list_any test xs)
+list_all-not test [] = refl
+list_all-not test (x ∷ xs) =
+    ap (λ (rest : Bool). not (test x) && rest) (list_all-not test xs)
+    ∙ not-or (test x) (list_any test xs)
+
+-- all elements pass two tests where all pass each
+pub list_all-and : {X : Type 0} (test other : X → Bool) (xs : List X)
+    → (list_all test xs && list_all other xs) ≡ list_all (λ x. test x && other x) xs
+list_all-and test other [] = refl
+list_all-and test other (x ∷ xs) =
+    crossed (test x) (list_all test xs) (other x) (list_all other xs)
+    ∙ ap (λ (rest : Bool). (test x && other x) && rest) (list_all-and test other xs)
+  where
+    crossed : (first rest second last : Bool)
+        → ((first && rest) && (second && last)) ≡ ((first && second) && (rest && last))
+    crossed false rest second last = refl
+    crossed true false false last = refl
+    crossed true false true last = refl
+    crossed true true second last = refl
+
+-- two lists of numbers that are made of one are the same where each pair is
+pub pointwise-map : {X : Type 0} (f g : X → ℕ) (xs : List X)
+    → pointwise nat_eq (map f xs) (map g xs) ≡ list_all (λ x. nat_eq (f x) (g x)) xs
+pointwise-map f g [] = refl
+pointwise-map f g (x ∷ xs) =
+    ap (λ (rest : Bool). nat_eq (f x) (g x) && rest) (pointwise-map f g xs)
+
+-- two tests that agree on each element keep the same ones
+pub filter-agree : {X : Type 0} (test other : X → Bool) (xs : List X)
+    → All (λ x. test x ≡ other x) xs → filter test xs ≡ filter other xs
+filter-agree test other [] agree = refl
+filter-agree test other (x ∷ xs) agree =
+    rw (All-head (λ x. test x ≡ other x) x xs agree)
+    (ap (λ rest. cond (other x) (x ∷ rest) rest)
+    (filter-agree test other xs (All-tail (λ x. test x ≡ other x) x xs agree)))
+
+-- a list in front, where a test passes, makes the joined lists longer by it, or is empty
+pub flat_map-cons_if : {X : Type 0} (test : Bool) (first : List X) (rest : List (List X))
+    → (test ≡ false → first ≡ [])
+    → flat_map (λ xs. xs) (if test then first ∷ rest else rest)
+    ≡ first ++ flat_map (λ xs. xs) rest
+flat_map-cons_if true first rest none = refl
+flat_map-cons_if false first rest none = rw (none refl) refl
+
+-- an element in front, where a test passes, counts
+pub length-cons_if : {X : Type 0} (test : Bool) (first : X) (rest : List X)
+    → length (if test then first ∷ rest else rest) ≡ (if test then 1 else 0) + length rest
+length-cons_if true first rest = omega arith
+length-cons_if false first rest = omega arith
+
+-- a list with an element in front, where a test passes, goes on as it does without it
+pub append-cons_if : {X : Type 0} (test : Bool) (first : X) (rest more : List X)
+    → (if test then first ∷ (rest ++ more) else rest ++ more)
+    ≡ (if test then first ∷ rest else rest) ++ more
+append-cons_if true first rest more = refl
+append-cons_if false first rest more = refl
+
+-- the last of some numbers is what a fold that keeps the newest ends in
+pub get_or-last : (first : ℕ) (later : List ℕ)
+    → get_or (first ∷ later) (length later) 0 ≡ fold (λ _ number. number) first later
+get_or-last first [] = refl
+get_or-last first (next ∷ later) = get_or-last next later
+
+-- a test that passes no element keeps none
+pub filter-none : {X : Type 0} (test : X → Bool) (xs : List X)
+    → All (λ x. test x ≡ false) xs → filter test xs ≡ []
+filter-none test [] fails = refl
+filter-none test (x ∷ xs) fails =
+    rw (All-head (λ x. test x ≡ false) x xs fails)
+    (filter-none test xs (All-tail (λ x. test x ≡ false) x xs fails))
+
+-- a test that finds no element keeps none
+pub filter-not_found : {X : Type 0} (test : X → Bool) (xs : List X) → list_any test xs ≡ false
+    → filter test xs ≡ []
+filter-not_found test [] found = refl
+filter-not_found test (x ∷ xs) found =
+    let parts = or_parts (test x) (list_any test xs) found in
+    rw parts.0 (filter-not_found test xs parts.1)
+
+-- a test that passes each element keeps all
+pub filter-all : {X : Type 0} (test : X → Bool) (xs : List X)
+    → All (λ x. test x ≡ true) xs → filter test xs ≡ xs
+filter-all test [] passes = refl
+filter-all test (x ∷ xs) passes =
+    rw (All-head (λ x. test x ≡ true) x xs passes)
+    (ap (λ rest. x ∷ rest) (filter-all test xs (All-tail (λ x. test x ≡ true) x xs passes)))
+
+-- a test of mapped elements keeps the images of those whose images pass
+pub filter-map : {X Y : Type 0} (test : Y → Bool) (f : X → Y) (xs : List X)
+    → filter test (map f xs) ≡ map f (filter (λ x. test (f x)) xs)
+filter-map test f [] = refl
+filter-map test f (x ∷ xs) =
+    rw (filter-map test f xs) (each (test (f x)))
+  where
+    each : (passes : Bool)
+        → cond passes (f x ∷ map f (filter (λ x. test (f x)) xs))
+        (map f (filter (λ x. test (f x)) xs))
+        ≡ map f (cond passes (x ∷ filter (λ x. test (f x)) xs) (filter (λ x. test (f x)) xs))
+    each true = refl
+    each false = refl
+
+-- a test keeps of joined lists what it keeps of each
+pub filter-flat_map : {X Y : Type 0} (test : Y → Bool) (f : X → List Y) (xs : List X)
+    → filter test (flat_map f xs) ≡ flat_map (λ x. filter test (f x)) xs
+filter-flat_map test f [] = refl
+filter-flat_map test f (x ∷ xs) =
+    filter-append test (f x) (flat_map f xs)
+    ∙ ap (λ rest. filter test (f x) ++ rest) (filter-flat_map test f xs)
+
+-- what is true of the numbers from one on is true of each of the run
+pub All-range_with_len : (P : ℕ → Type 0) (from many : ℕ)
+    → ((number : ℕ) → from ≤ number → number < from + many → P number)
+    → All P (range_with_len from many)
+All-range_with_len P from many each index default within =
+    let below : index < many = omega (arith, length-range_with_len from many) in
+    rw (get_or-range_with_len from many index default below)
+    (each (from + index) (omega arith) (omega arith))
+
+-- a run of numbers is a shorter one and what follows it
+pub range_with_len-add : (from many more next : ℕ) → from + many ≡ next
+    → range_with_len from (many + more) ≡ range_with_len from many ++ range_with_len next more
+range_with_len-add from zero more next follows =
+    ap (λ (many : ℕ). range_with_len from many) (omega arith)
+    ∙ ap (λ (first : ℕ). range_with_len first more) (omega arith)
+range_with_len-add from (suc many) more next follows =
+    let count : suc many + more ≡ suc (many + more) = omega arith in
+    ap (λ (count : ℕ). range_with_len from count) count
+    ∙ ap (λ rest. from ∷ rest) (range_with_len-add (from + 1) many more next (omega arith))
+
+-- a test that passes exactly on the numbers from one up to another keeps those
+pub filter-range_with_len : (test : ℕ → Bool) (from to bound : ℕ) → from ≤ to → to ≤ bound
+    → ((number : ℕ) → number < from → test number ≡ false)
+    → ((number : ℕ) → from ≤ number → number < to → test number ≡ true)
+    → ((number : ℕ) → to ≤ number → test number ≡ false)
+    → filter test (range_with_len 0 bound) ≡ range_with_len from (to - from)
+filter-range_with_len test from to bound in_order within before passes behind =
+    let none_before : filter test (range_with_len 0 from) ≡ [] =
+    filter-none test _ (All-range_with_len (λ number. test number ≡ false) 0 from
+    (λ number _ below. before number (omega arith))) in
+    let all_between : filter test (range_with_len from (to - from))
+    ≡ range_with_len from (to - from) =
+    filter-all test _ (All-range_with_len (λ number. test number ≡ true) from (to - from)
+    (λ number at_least below. passes number at_least (omega arith))) in
+    let none_behind : filter test (range_with_len to (bound - to)) ≡ [] =
+    filter-none test _ (All-range_with_len (λ number. test number ≡ false) to (bound - to)
+    (λ number at_least _. behind number at_least)) in
+    ap (λ (many : ℕ). filter test (range_with_len 0 many))
+    (let whole : bound ≡ from + ((to - from) + (bound - to)) = omega arith in whole)
+    ∙ rw (range_with_len-add 0 from ((to - from) + (bound - to)) from (omega arith))
+    (rw (range_with_len-add from (to - from) (bound - to) to (omega arith))
+    (rw (filter-append test (range_with_len 0 from)
+    (range_with_len from (to - from) ++ range_with_len to (bound - to)))
+    (rw (filter-append test (range_with_len from (to - from)) (range_with_len to (bound - to)))
+    (rw (none_before, all_between, none_behind) (append-nil (range_with_len from (to - from)))))))
+
+-- a number below the bound is one of those below it
+pub list_any-range_with_len : (number bound : ℕ) → number < bound
+    → list_any (λ other. other == number) (range_with_len 0 bound) ≡ true
+list_any-range_with_len number bound below =
+    list_any_at (λ other. other == number) (range_with_len 0 bound) number 0
+    (omega (arith, length-range_with_len 0 bound))
+    (eq-eqb (get_or (range_with_len 0 bound) number 0) number
+    (omega (arith, get_or-range_with_len 0 bound number 0 below)))
+
+-- the first element stands before all later ones
+pub AllPairs-head : {X : Type 0} (R : X → X → Type 0) (x : X) (xs : List X)
+    → AllPairs R (x ∷ xs) → All (R x) xs
+AllPairs-head R x xs pairs index default within =
+    pairs 0 (suc index) default (omega arith) (omega arith)
+
+-- the later ones are in order
+pub AllPairs-tail : {X : Type 0} (R : X → X → Type 0) (x : X) (xs : List X)
+    → AllPairs R (x ∷ xs) → AllPairs R xs
+AllPairs-tail R x xs pairs first second default before within =
+    pairs (suc first) (suc second) default (omega arith) (omega arith)
+
+-- the first part is in order
+pub AllPairs-front : {X : Type 0} (R : X → X → Type 0) (xs ys : List X)
+    → AllPairs R (xs ++ ys) → AllPairs R xs
+AllPairs-front R xs ys pairs first second default before within =
+    rw (
+      ← get_or_append_left xs ys default first (omega arith),
+      ← get_or_append_left xs ys default second within,
+    )
+    (pairs first second default before (omega (arith, length-append xs ys)))
+
+-- the elements behind one stand behind it
+pub AllPairs-behind : {X : Type 0} (R : X → X → Type 0) (xs : List X) (x : X) (ys : List X)
+    → AllPairs R (xs ++ x ∷ ys) → All (R x) ys
+AllPairs-behind R [] x ys pairs = AllPairs-head R x ys pairs
+AllPairs-behind R (first ∷ xs) x ys pairs =
+    AllPairs-behind R xs x ys (AllPairs-tail R first (xs ++ x ∷ ys) pairs)
+
+-- the elements before one stand before it
+pub AllPairs-before : {X : Type 0} (R : X → X → Type 0) (xs : List X) (x : X) (ys : List X)
+    → AllPairs R (xs ++ x ∷ ys) → All (λ before. R before x) xs
+AllPairs-before R xs x ys pairs index default within =
+    let pair : R (get_or (xs ++ x ∷ ys) index default) (get_or (xs ++ x ∷ ys) (length xs) default) =
+    pairs index (length xs) default within (omega (arith, length-append xs (x ∷ ys))) in
+    rw (
+      get_or_append_left xs (x ∷ ys) default index within,
+      get_or_at xs x ys default (length xs) refl,
+    ) at pair
+
+-- two lists are in order where all of the first stand before all of the second
+pub AllPairs-append : {X : Type 0} (R : X → X → Type 0) (xs ys : List X)
+    → AllPairs R xs → AllPairs R ys → All (λ x. All (R x) ys) xs → AllPairs R (xs ++ ys)
+AllPairs-append R [] ys front back across = back
+AllPairs-append R (x ∷ xs) ys front back across =
+    AllPairs-cons R x (xs ++ ys)
+    (All-append (R x) xs ys (AllPairs-head R x xs front)
+    (All-head (λ x. All (R x) ys) x xs across))
+    (AllPairs-append R xs ys (AllPairs-tail R x xs front) back
+    (All-tail (λ x. All (R x) ys) x xs across))
+
+-- what is made of the elements is in order where the elements are, made so
+pub AllPairs-map : {X Y : Type 0} (R : Y → Y → Type 0) (f : X → Y) (xs : List X)
+    → AllPairs (λ x next. R (f x) (f next)) xs → AllPairs R (map f xs)
+AllPairs-map R f [] pairs = λ first second default before within. absurd (omega arith)
+AllPairs-map R f (x ∷ xs) pairs =
+    AllPairs-cons R (f x) (map f xs)
+    (All-map (R (f x)) f xs (AllPairs-head (λ x next. R (f x) (f next)) x xs pairs))
+    (AllPairs-map R f xs (AllPairs-tail (λ x next. R (f x) (f next)) x xs pairs))
+
+-- the numbers of a run rise
+pub AllPairs-range_with_len : (from many : ℕ)
+    → AllPairs (λ (number next : ℕ). number < next) (range_with_len from many)
+AllPairs-range_with_len from many first second default before within =
+    let few : second < many = omega (arith, length-range_with_len from many) in
+    rw (
+      get_or-range_with_len from many first default (omega arith),
+      get_or-range_with_len from many second default few,
+    ) (omega arith)
