@@ -27,8 +27,8 @@ is_key-itself key =
     (eq-eqb key.part key.part refl)
 
 -- keys that the test finds the same are equal
-pub same-is_key : (key other : Key) → is_key key other ≡ true → other ≡ key
-same-is_key key other same =
+pub is_key-same : (key other : Key) → is_key key other ≡ true → other ≡ key
+is_key-same key other same =
     let parts = and_parts (other.table == key.table) (other.part == key.part) same in
     let table : other.table ≡ key.table = eqb-true other.table key.table parts.0 in
     let part : other.part ≡ key.part = eqb-true other.part key.part parts.1 in
@@ -45,9 +45,9 @@ is_key-before key other apart =
     omega arith)
 
 -- a key that stands before each of the list is not among them
-pub is_among-behind : (key : Key) (keys : List Key) → All (IsBefore key) keys
+pub is_among-after : (key : Key) (keys : List Key) → All (IsBefore key) keys
     → is_among keys key ≡ false
-is_among-behind key keys behind =
+is_among-after key keys behind =
     list_any_none (is_key key) keys (λ index default within.
     is_key-before key (get_or keys index default) (inl (behind index default within)))
 
@@ -71,7 +71,7 @@ IsBefore-le key later before = omega arith
 pub is_among-earlier : (source first : Key) (later : List Key) → source.table < first.table
     → All (IsBefore first) later → is_among (first ∷ later) source ≡ false
 is_among-earlier source first later before behind =
-    is_among-behind source (first ∷ later)
+    is_among-after source (first ∷ later)
     (All-cons (IsBefore source) first later (inl before)
     (λ index default within. inl (omega (
       arith,
@@ -84,4 +84,4 @@ pub All-is_among : (P : Key → Type 0) (keys : List Key) (key : Key) → All P 
     → is_among keys key ≡ true → P key
 All-is_among P keys key all among =
     let found = Any-from_list_any (is_key key) keys among in
-    subst P (found.3 ∙ same-is_key key found.1 found.4) (all found.0 found.1 found.2)
+    subst P (found.3 ∙ is_key-same key found.1 found.4) (all found.0 found.1 found.2)

@@ -28,7 +28,7 @@ use Rattle.view_meaning.specs.Versions.{touches, loads_after, raw_version, is_ra
 use Rattle.view_meaning.specs.Values.{joined, value_over, value_within, value}
 use Rattle.view_meaning.specs.Staleness.{is_stale, is_settled_within}
 use Rattle.view_meaning.specs.Contents.{rows_kept, loads_kept, raw_content, install_content, view_content, content_over, content_within, HasSettledValues}
-use Rattle.view_meaning.proofs.ListLemmas.{flat_map-agree, All-map_agree, flat_map-none, All-joined, flat_map-cons_if, length-cons_if, filter-not_found}
+use Rattle.view_meaning.proofs.ListLemmas.{flat_map-agree, All-map_agree, flat_map-none, All-from_flat_map, flat_map-cons_if, length-cons_if, filter-empty}
 use Rattle.view_meaning.proofs.RawLemmas.{cells_where-append, version-raw}
 use Rattle.view_meaning.proofs.VersionLemmas.{last_place-none, nth_place-last, version-view}
 
@@ -51,7 +51,7 @@ flat_map-loads_kept desc key before (delivery ∷ later) =
     flat_map-cons_if (touches desc key before delivery) (rows_kept desc key before delivery)
     (loads_kept desc key (before ++ delivery ∷ []) later)
     (λ untouched. ap (λ (rows : List DRow). map (λ (row : DRow). row.cells) rows)
-    (filter-not_found (lies_in desc key) (kept_rows desc before delivery) untouched))
+    (filter-empty (lies_in desc key) (kept_rows desc before delivery) untouched))
     ∙ ap (λ (rows : List (List Cell)). rows_kept desc key before delivery ++ rows)
     (flat_map-loads_kept desc key (before ++ delivery ∷ []) later)
     ∙ sym (cells_where-append (lies_in desc key) (kept_rows desc before delivery)
@@ -98,51 +98,51 @@ operation-joined desc rows other table part agree =
     (λ src. joined desc rows table.width part src ≡ joined desc other table.width part src)
     (λ src same. flat_map-agree rows other (keys_read desc table.width part src) same)
     (kind_sources table.kind)
-    (All-joined (λ source. rows source ≡ other source) (keys_read desc table.width part)
+    (All-from_flat_map (λ source. rows source ≡ other source) (keys_read desc table.width part)
     (kind_sources table.kind) agree))
 
 -- version 0 of a partition of this table is empty
-content_over-first : (desc : DescOf) (rows : Key → ℕ → List (List Cell)) (journal : List Entry)
+content_over-start : (desc : DescOf) (rows : Key → ℕ → List (List Cell)) (journal : List Entry)
     (key : Key) (found : Option TableOf) → content_over desc rows journal key 0 found ≡ []
-content_over-first desc rows journal key None = refl
-content_over-first desc rows journal key (Some table) = elim (cases_Bool (is_raw_kind table.kind)) [
+content_over-start desc rows journal key None = refl
+content_over-start desc rows journal key (Some table) = elim (cases_Bool (is_raw_kind table.kind)) [
   | inl raw ↦ rw raw refl
   | inr view ↦ rw view refl
 ]
 
 -- version 0 of each partition is empty
-pub content_within-first : (depth : ℕ) (desc : DescOf) (journal : List Entry) (key : Key)
+pub content_within-start : (depth : ℕ) (desc : DescOf) (journal : List Entry) (key : Key)
     → content_within depth desc journal key 0 ≡ []
-content_within-first zero desc journal key = refl
-content_within-first (suc depth) desc journal key =
-    content_over-first desc (content_within depth desc journal) journal key
+content_within-start zero desc journal key = refl
+content_within-start (suc depth) desc journal key =
+    content_over-start desc (content_within depth desc journal) journal key
     (slice_get desc.tables key.table)
 
 -- before any entry each partition has version 0
-version-no_entry : (desc : DescOf) (key : Key) → version desc [] key ≡ 0
-version-no_entry desc key = elim (cases_Bool (is_raw (slice_get desc.tables key.table))) [
+version-empty : (desc : DescOf) (key : Key) → version desc [] key ≡ 0
+version-empty desc key = elim (cases_Bool (is_raw (slice_get desc.tables key.table))) [
   | inl raw ↦ rw raw refl
   | inr view ↦ rw view refl
 ]
 
 -- an install that counts no entry reads version 0 of each source, and makes nothing
-install_content-no_entry : (desc : DescOf) (rows : Key → ℕ → List (List Cell))
+install_content-start : (desc : DescOf) (rows : Key → ℕ → List (List Cell))
     (journal : List Entry) (key : Key) (table : TableOf) → ((source : Key) → rows source 0 ≡ [])
     → install_content desc rows journal key table 0 ≡ []
-install_content-no_entry desc rows journal key table first =
+install_content-start desc rows journal key table first =
     operation-none table.kind
     (joined desc (λ source. rows source (version desc [] source)) table.width key.part)
     (λ src. flat_map-none (λ source. rows source (version desc [] source))
     (keys_read desc table.width key.part src)
-    (λ source. ap (rows source) (version-no_entry desc source) ∙ first source))
+    (λ source. ap (rows source) (version-empty desc source) ∙ first source))
 
 -- the latest version of a view's partition is what an install made that counted as many entries as
 -- the last one, also where there was none
-view_content-latest : (desc : DescOf) (rows : Key → ℕ → List (List Cell)) (journal : List Entry)
+view_content-last : (desc : DescOf) (rows : Key → ℕ → List (List Cell)) (journal : List Entry)
     (key : Key) (table : TableOf) → ((source : Key) → rows source 0 ≡ [])
     → view_content desc rows journal key table (length (install_places journal key))
     ≡ install_content desc rows journal key table (last_place journal key)
-view_content-latest desc rows journal key table first = at_places (install_places journal key) refl
+view_content-last desc rows journal key table first = at_places (install_places journal key) refl
   where
     made : (at : ℕ) → List (List Cell)
     made at = install_content desc rows journal key table at
@@ -152,7 +152,7 @@ view_content-latest desc rows journal key table first = at_places (install_place
         ≡ install_content desc rows journal key table (last_place journal key)
     at_places [] none =
         ap (λ (places : List ℕ). view_content desc rows journal key table (length places)) none
-        ∙ sym (install_content-no_entry desc rows journal key table first)
+        ∙ sym (install_content-start desc rows journal key table first)
         ∙ ap made (sym (last_place-none journal key none))
     at_places (place ∷ later) some =
         ap (λ (places : List ℕ). view_content desc rows journal key table (length places)) some
@@ -187,7 +187,7 @@ content_over-version desc rows other journal key (Some table) is_found first rea
       | inr view ↦ rw view
           (ap (view_content desc rows journal key table)
           (version-view desc journal key (ap is_raw is_found ∙ view))
-          ∙ view_content-latest desc rows journal key table first
+          ∙ view_content-last desc rows journal key table first
           ∙ operation-joined desc
           (λ source. rows source (version desc (take (last_place journal key) journal) source))
           other table key.part read)
@@ -208,7 +208,7 @@ content_within-version (suc depth) desc journal key settled =
     parts.1 in
     content_over-version desc (content_within depth desc journal)
     (value_within depth desc (accepted journal)) journal key (slice_get desc.tables key.table) refl
-    (content_within-first depth desc journal)
+    (content_within-start depth desc journal)
     (λ index default within.
     let source = get_or (sources_of desc key) index default in
     ap (content_within depth desc journal source) (seen index default within)
@@ -220,24 +220,24 @@ settled_values desc journal key settled =
     content_within-version (suc key.table) desc journal key settled
 
 -- a table has no rows where nothing was accepted and those below it have none
-value_over-nothing : (desc : DescOf) (rows : Key → List (List Cell)) (key : Key)
+value_over-empty : (desc : DescOf) (rows : Key → List (List Cell)) (key : Key)
     (found : Option TableOf) → ((source : Key) → rows source ≡ [])
     → value_over desc [] rows key found ≡ []
-value_over-nothing desc rows key None none = refl
-value_over-nothing desc rows key (Some table) none = elim (cases_Bool (is_raw_kind table.kind)) [
+value_over-empty desc rows key None none = refl
+value_over-empty desc rows key (Some table) none = elim (cases_Bool (is_raw_kind table.kind)) [
   | inl raw ↦ rw raw refl
   | inr view ↦ rw view (operation-none table.kind (joined desc rows table.width key.part)
       (λ src. flat_map-none rows (keys_read desc table.width key.part src) none))
 ]
 
 -- nor has any partition
-value_within-nothing : (depth : ℕ) (desc : DescOf) (key : Key)
+value_within-empty : (depth : ℕ) (desc : DescOf) (key : Key)
     → value_within depth desc [] key ≡ []
-value_within-nothing zero desc key = refl
-value_within-nothing (suc depth) desc key =
-    value_over-nothing desc (value_within depth desc []) key (slice_get desc.tables key.table)
-    (λ source. value_within-nothing depth desc source)
+value_within-empty zero desc key = refl
+value_within-empty (suc depth) desc key =
+    value_over-empty desc (value_within depth desc []) key (slice_get desc.tables key.table)
+    (λ source. value_within-empty depth desc source)
 
 -- where nothing was accepted no partition has rows
-pub value-nothing : (desc : DescOf) (key : Key) → value desc [] key ≡ []
-value-nothing desc key = value_within-nothing (suc key.table) desc key
+pub value-empty : (desc : DescOf) (key : Key) → value desc [] key ≡ []
+value-empty desc key = value_within-empty (suc key.table) desc key

@@ -20,8 +20,8 @@ use Rattle.view_meaning.specs.Versions.{is_raw, last_place}
 use Rattle.view_meaning.specs.Staleness.{is_stale, is_settled}
 use Rattle.view_meaning.specs.LegalJournals.{MayInstall, IsLegal}
 use Rattle.view_meaning.specs.Drains.{all_view_keys, unsettled, with_install, drained}
-use Rattle.view_meaning.proofs.ListLemmas.{AllPairs-front, AllPairs-behind, AllPairs-before}
-use Rattle.view_meaning.proofs.AmongLemmas.{is_key, is_among, IsBefore, is_key-itself, same-is_key, is_among-behind, is_among-before, is_among-earlier, All-is_among, IsBefore-table, IsBefore-le}
+use Rattle.view_meaning.proofs.ListLemmas.{AllPairs-front, AllPairs-after, AllPairs-before}
+use Rattle.view_meaning.proofs.AmongLemmas.{is_key, is_among, IsBefore, is_key-itself, is_key-same, is_among-after, is_among-before, is_among-earlier, All-is_among, IsBefore-table, IsBefore-le}
 use Rattle.view_meaning.proofs.KeyLemmas.{sources_of-parts, sources_of-none, AllPairs-all_view_keys, all_view_keys-not_raw, all_view_keys-parts}
 use Rattle.view_meaning.proofs.SourceLemmas.{sources_of-earlier}
 use Rattle.view_meaning.proofs.LegalLemmas.{IsLegal-push, MayInstall-last, last_place-le}
@@ -36,7 +36,7 @@ is_among-unsettled desc journal key =
     any-filter_same (is_key key) (λ key. not (is_settled desc journal key))
     (not (is_settled desc journal key))
     (λ other same. ap (λ (key : Key). not (is_settled desc journal key))
-    (same-is_key key other same))
+    (is_key-same key other same))
     (all_view_keys desc)
 
 -- a partition that is not among them is settled
@@ -122,10 +122,10 @@ is_part-next desc journal done later next split =
 module _ (desc : DescOf) (journal : List Entry) (earlier : HasEarlierSources desc)
     (legal : IsLegal desc journal) where
   -- a partition that was settled and is not installed does not become stale
-  is_stale-kept : (done rest : List Key) (key : Key) → unsettled desc journal ≡ done ++ rest
+  is_stale-same : (done rest : List Key) (key : Key) → unsettled desc journal ≡ done ++ rest
       → is_among done key ≡ false → is_settled desc journal key ≡ true
       → is_stale desc (with_installs journal done) key ≡ false
-  is_stale-kept done rest key split other settled =
+  is_stale-same done rest key split other settled =
       is_stale-with_installs desc journal done key (last_place-le desc journal key legal) other
       (λ index default within.
       is_among-done desc journal done rest (get_or (sources_of desc key) index default) split
@@ -141,11 +141,11 @@ module _ (desc : DescOf) (journal : List Entry) (earlier : HasEarlierSources des
         | inl among ↦ is_stale-among desc journal done key
             (AllPairs-front IsBefore done rest (AllPairs-split desc journal done rest split)) among
             (sources_of-earlier desc key earlier)
-        | inr other ↦ is_stale-kept done rest key split other
+        | inr other ↦ is_stale-same done rest key split other
             (is_settled-unless desc journal key part
             (is_among-split desc journal done rest key split
             ∙ or_from (is_among done key) (is_among rest key) other
-            (is_among-behind key rest (IsBefore-table key rest behind))))
+            (is_among-after key rest (IsBefore-table key rest behind))))
       ]
 
   -- it is settled
@@ -175,7 +175,7 @@ module _ (desc : DescOf) (journal : List Entry) (earlier : HasEarlierSources des
       let before : source.table < next.table =
       sources_of-earlier desc next earlier index default inside in
       let behind : All (IsBefore next) later =
-      AllPairs-behind IsBefore done next later
+      AllPairs-after IsBefore done next later
       (AllPairs-split desc journal done (next ∷ later) split) in
       is_settled-done (suc source.table) done (next ∷ later) source (omega arith) split
       (sources_of-parts desc next index default inside)
@@ -209,7 +209,7 @@ module _ (desc : DescOf) (journal : List Entry) (earlier : HasEarlierSources des
       (is_raw-done desc journal done (next ∷ later) split) fresh index default inside)
       (is_among-earlier source next later
       (sources_of-earlier desc next earlier index default inside)
-      (AllPairs-behind IsBefore done next later rises))))
+      (AllPairs-after IsBefore done next later rises))))
 
   -- so it is stale
   is_stale-next : (done later : List Key) (next : Key)

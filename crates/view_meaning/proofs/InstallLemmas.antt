@@ -15,8 +15,8 @@ use Rattle.view_meaning.specs.Versions.{install_places, is_raw, version, last_pl
 use Rattle.view_meaning.specs.Staleness.{is_stale}
 use Rattle.view_meaning.specs.Drains.{with_install}
 use Rattle.view_meaning.proofs.ListLemmas.{map-agree, All-map_agree, AllPairs-head, AllPairs-tail}
-use Rattle.view_meaning.proofs.AmongLemmas.{is_key, is_among, IsBefore, same-is_key, is_among-behind, is_among-earlier}
-use Rattle.view_meaning.proofs.VersionLemmas.{install_places-append, version-view, version-le, version-take-le, version-stay, last_place-Install, recorded-stay}
+use Rattle.view_meaning.proofs.AmongLemmas.{is_key, is_among, IsBefore, is_key-same, is_among-after, is_among-earlier}
+use Rattle.view_meaning.proofs.VersionLemmas.{install_places-append, version-view, version-le, version-take-le, version-same, last_place-Install, recorded-same}
 use Rattle.view_meaning.proofs.SettledLemmas.{is_stale-current, recorded-current}
 
 -- a journal with installs of these keys, each of which counts all entries before it
@@ -53,14 +53,14 @@ install_places-made_from at (first ∷ later) key none =
     rw parts.0 (install_places-made_from (at + 1) later key parts.1)
 
 -- one of them is of a key that is
-install_places-made_from-among : (at : ℕ) (keys : List Key) (key : Key)
+install_places-made_from-lt : (at : ℕ) (keys : List Key) (key : Key)
     → is_among keys key ≡ true → 0 < length (install_places (made_from at keys) key)
-install_places-made_from-among at [] key among = absurd (false≢true among)
-install_places-made_from-among at (first ∷ later) key among =
+install_places-made_from-lt at [] key among = absurd (false≢true among)
+install_places-made_from-lt at (first ∷ later) key among =
     elim (cases_Bool (is_key key first)) [
       | inl same ↦ rw same (omega arith)
       | inr other ↦ rw other
-          (install_places-made_from-among (at + 1) later key (rw other at among))
+          (install_places-made_from-lt (at + 1) later key (rw other at among))
     ]
 
 -- a version stays where its partition is not installed
@@ -69,7 +69,7 @@ version-with_installs : (desc : DescOf) (journal : List Entry) (keys : List Key)
     → version desc (with_installs journal keys) key ≡ version desc journal key
 version-with_installs desc journal keys key none =
     ap (λ (all : List Entry). version desc all key) (with_installs-made_from journal keys)
-    ∙ version-stay desc journal (made_from (length journal) keys) key
+    ∙ version-same desc journal (made_from (length journal) keys) key
     (accepted-made_from (length journal) keys)
     (install_places-made_from (length journal) keys key none)
 
@@ -93,7 +93,7 @@ version-with_installs-lt desc journal keys key view among =
       version-view desc (journal ++ made) key view,
       ap length (install_places-append journal made key),
       length-append (install_places journal key) (install_places made key),
-      install_places-made_from-among (length journal) keys key among,
+      install_places-made_from-lt (length journal) keys key among,
     ))
 
 -- what the last install recorded stays where the partition is not installed since
@@ -102,7 +102,7 @@ pub recorded-with_installs : (desc : DescOf) (journal : List Entry) (keys : List
     → recorded desc (with_installs journal keys) key ≡ recorded desc journal key
 recorded-with_installs desc journal keys key within none =
     ap (λ (all : List Entry). recorded desc all key) (with_installs-made_from journal keys)
-    ∙ recorded-stay desc journal (made_from (length journal) keys) key within
+    ∙ recorded-same desc journal (made_from (length journal) keys) key within
     (install_places-made_from (length journal) keys key none)
 
 -- the versions of its sources stay where none of them is installed
@@ -160,9 +160,9 @@ is_stale-among desc journal (first ∷ later) key rises among earlier =
     elim (cases_Bool (is_key key first)) [
       | inl same ↦
           let behind : All (IsBefore first) later = AllPairs-head IsBefore first later rises in
-          let first_is : first ≡ key = same-is_key key first same in
+          let first_is : first ≡ key = is_key-same key first same in
           is_stale-installed desc journal first key later same
-          (is_among-behind key later
+          (is_among-after key later
           (subst (λ (key : Key). All (IsBefore key) later) first_is behind))
           (λ index default within.
           is_among-earlier (get_or (sources_of desc key) index default) first later

@@ -16,9 +16,3 @@ accepted-map-Load (delivery ∷ later) = ap (λ rest. delivery ∷ rest) (accept
 pub accepted-append : (journal more : List Entry)
     → accepted (journal ++ more) ≡ accepted journal ++ accepted more
 accepted-append journal more = filter_map-append delivery_of journal more
-
--- a load at the end of the journal adds its delivery at the end
-pub accepted-append-Load : (journal : List Entry) (delivery : DeliveryOf)
-    → accepted (journal ++ entry.Load delivery ∷ []) ≡ accepted journal ++ delivery ∷ []
-accepted-append-Load journal delivery =
-    accepted-append journal (entry.Load delivery ∷ [])

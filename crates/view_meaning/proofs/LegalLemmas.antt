@@ -14,7 +14,7 @@ use Rattle.view_meaning.specs.Partitions.{is_part, sources_of}
 use Rattle.view_meaning.specs.Staleness.{is_stale, is_settled}
 use Rattle.view_meaning.specs.Versions.{installs, install_places, is_raw, last_place}
 use Rattle.view_meaning.specs.LegalJournals.{MayInstall, MayFollow, MayAllFollow, IsLegal}
-use Rattle.view_meaning.proofs.AmongLemmas.{same-is_key}
+use Rattle.view_meaning.proofs.AmongLemmas.{is_key-same}
 use Rattle.view_meaning.proofs.KeyLemmas.{sources_of-raw}
 use Rattle.view_meaning.proofs.VersionLemmas.{install_places-append}
 use Rattle.view_meaning.proofs.SettledLemmas.{is_stale-no_sources}
@@ -58,15 +58,15 @@ MayInstall-last desc journal key part stale ready =
 
 -- what holds of a legal journal, and is kept by each entry that may follow one, holds behind
 -- entries that may follow one by one
-kept-behind : (desc : DescOf) (P : List Entry → Type 0)
+MayAllFollow-kept : (desc : DescOf) (P : List Entry → Type 0)
     → ((journal : List Entry) (next : Entry) → IsLegal desc journal → P journal
     → MayFollow desc journal next → P (journal ++ next ∷ []))
     → (journal entries : List Entry) → IsLegal desc journal → P journal
     → MayAllFollow desc journal entries → P (journal ++ entries)
-kept-behind desc P kept journal [] legal here may = subst P (sym (append-nil journal)) here
-kept-behind desc P kept journal (next ∷ later) legal here may =
+MayAllFollow-kept desc P kept journal [] legal here may = subst P (sym (append-nil journal)) here
+MayAllFollow-kept desc P kept journal (next ∷ later) legal here may =
     subst P (append_assoc journal (next ∷ []) later)
-    (kept-behind desc P kept (journal ++ next ∷ []) later
+    (MayAllFollow-kept desc P kept (journal ++ next ∷ []) later
     (IsLegal-push desc journal next legal may.0) (kept journal next legal here may.0) may.1)
 
 -- what holds of no entries, and is kept by each entry that may follow a legal journal, holds of
@@ -75,7 +75,7 @@ pub IsLegal-kept : (desc : DescOf) (P : List Entry → Type 0) → P []
     → ((journal : List Entry) (next : Entry) → IsLegal desc journal → P journal
     → MayFollow desc journal next → P (journal ++ next ∷ []))
     → (journal : List Entry) → IsLegal desc journal → P journal
-IsLegal-kept desc P first kept journal = kept-behind desc P kept [] journal tt first
+IsLegal-kept desc P first kept journal = MayAllFollow-kept desc P kept [] journal tt first
 
 -- the first of some entries that may follow one by one may
 MayAllFollow-take : (desc : DescOf) (count : ℕ) (journal entries : List Entry)
@@ -136,7 +136,7 @@ SawSettled-step desc journal (entry.Install installed at) key follows =
     elim (cases_Bool (installs key (entry.Install installed at))) [
       | inl same ↦ rw same
           (All-cons (SawSettled desc journal key) at []
-          (subst (λ (key : Key). SawSettled desc journal key at) (same-is_key key installed same)
+          (subst (λ (key : Key). SawSettled desc journal key at) (is_key-same key installed same)
           (SawSettled-MayInstall desc journal installed at follows))
           (All-nil (SawSettled desc journal key)))
       | inr other ↦ rw other (All-nil (SawSettled desc journal key))
@@ -171,11 +171,11 @@ abbrev pub AreWithin : (many : ℕ) → List ℕ → Type 0
 AreWithin many places = All (λ place. place ≤ many) places
 
 -- the last of some places is not either
-last-AreWithin : (many first : ℕ) (places : List ℕ) → first ≤ many → AreWithin many places
+last-le : (many first : ℕ) (places : List ℕ) → first ≤ many → AreWithin many places
     → fold (λ _ place. place) first places ≤ many
-last-AreWithin many first [] at_most within = at_most
-last-AreWithin many first (next ∷ later) at_most within =
-    last-AreWithin many next later (All-head (λ place. place ≤ many) next later within)
+last-le many first [] at_most within = at_most
+last-le many first (next ∷ later) at_most within =
+    last-le many next later (All-head (λ place. place ≤ many) next later within)
     (All-tail (λ place. place ≤ many) next later within)
 
 -- in a legal journal the place of each install is within it
@@ -190,5 +190,5 @@ install_places-le desc journal key legal =
 pub last_place-le : (desc : DescOf) (journal : List Entry) (key : Key) → IsLegal desc journal
     → last_place journal key ≤ length journal
 last_place-le desc journal key legal =
-    last-AreWithin (length journal) 0 (install_places journal key) (omega arith)
+    last-le (length journal) 0 (install_places journal key) (omega arith)
     (install_places-le desc journal key legal)

@@ -83,15 +83,15 @@ All-flat_map P f (x ∷ xs) all =
     (All-flat_map P f xs (All-tail (λ x. All P (f x)) x xs all))
 
 -- what is true of all of a joined list is true of the lists that it joins
-pub All-joined : {X Y : Type 0} (P : Y → Type 0) (f : X → List Y) (xs : List X)
+pub All-from_flat_map : {X Y : Type 0} (P : Y → Type 0) (f : X → List Y) (xs : List X)
     → All P (flat_map f xs) → All (λ x. All P (f x)) xs
-All-joined P f [] all = All-nil (λ x. All P (f x))
-All-joined P f (x ∷ xs) all =
+All-from_flat_map P f [] all = All-nil (λ x. All P (f x))
+All-from_flat_map P f (x ∷ xs) all =
     All-cons (λ x. All P (f x)) x xs
     (All-same P (f x) (take (length (f x)) (flat_map f (x ∷ xs)))
     (sym (take-append_seam (f x) (flat_map f xs)))
     (All-take P (length (f x)) (flat_map f (x ∷ xs)) all))
-    (All-joined P f xs
+    (All-from_flat_map P f xs
     (All-same P (flat_map f xs) (drop (length (f x)) (flat_map f (x ∷ xs)))
     (sym (drop-append_seam (f x) (flat_map f xs)))
     (All-drop P (length (f x)) (flat_map f (x ∷ xs)) all)))
@@ -171,12 +171,12 @@ filter-none test (x ∷ xs) fails =
     (filter-none test xs (All-tail (λ x. test x ≡ false) x xs fails))
 
 -- a test that finds no element keeps none
-pub filter-not_found : {X : Type 0} (test : X → Bool) (xs : List X) → list_any test xs ≡ false
+pub filter-empty : {X : Type 0} (test : X → Bool) (xs : List X) → list_any test xs ≡ false
     → filter test xs ≡ []
-filter-not_found test [] found = refl
-filter-not_found test (x ∷ xs) found =
+filter-empty test [] found = refl
+filter-empty test (x ∷ xs) found =
     let parts = or_parts (test x) (list_any test xs) found in
-    rw parts.0 (filter-not_found test xs parts.1)
+    rw parts.0 (filter-empty test xs parts.1)
 
 -- a test that passes each element keeps all
 pub filter-all : {X : Type 0} (test : X → Bool) (xs : List X)
@@ -218,15 +218,15 @@ All-range_with_len P from many each index default within =
     (each (from + index) (omega arith) (omega arith))
 
 -- a run of numbers is a shorter one and what follows it
-pub range_with_len-add : (from many more next : ℕ) → from + many ≡ next
+pub range_with_len-append : (from many more next : ℕ) → from + many ≡ next
     → range_with_len from (many + more) ≡ range_with_len from many ++ range_with_len next more
-range_with_len-add from zero more next follows =
+range_with_len-append from zero more next follows =
     ap (λ (many : ℕ). range_with_len from many) (omega arith)
     ∙ ap (λ (first : ℕ). range_with_len first more) (omega arith)
-range_with_len-add from (suc many) more next follows =
+range_with_len-append from (suc many) more next follows =
     let count : suc many + more ≡ suc (many + more) = omega arith in
     ap (λ (count : ℕ). range_with_len from count) count
-    ∙ ap (λ rest. from ∷ rest) (range_with_len-add (from + 1) many more next (omega arith))
+    ∙ ap (λ rest. from ∷ rest) (range_with_len-append (from + 1) many more next (omega arith))
 
 -- a test that passes exactly on the numbers from one up to another keeps those
 pub filter-range_with_len : (test : ℕ → Bool) (from to bound : ℕ) → from ≤ to → to ≤ bound
@@ -247,8 +247,8 @@ filter-range_with_len test from to bound in_order within before passes behind =
     (λ number at_least _. behind number at_least)) in
     ap (λ (many : ℕ). filter test (range_with_len 0 many))
     (let whole : bound ≡ from + ((to - from) + (bound - to)) = omega arith in whole)
-    ∙ rw (range_with_len-add 0 from ((to - from) + (bound - to)) from (omega arith))
-    (rw (range_with_len-add from (to - from) (bound - to) to (omega arith))
+    ∙ rw (range_with_len-append 0 from ((to - from) + (bound - to)) from (omega arith))
+    (rw (range_with_len-append from (to - from) (bound - to) to (omega arith))
     (rw (filter-append test (range_with_len 0 from)
     (range_with_len from (to - from) ++ range_with_len to (bound - to)))
     (rw (filter-append test (range_with_len from (to - from)) (range_with_len to (bound - to)))
@@ -286,11 +286,11 @@ AllPairs-front R xs ys pairs first second default before within =
     (pairs first second default before (omega (arith, length-append xs ys)))
 
 -- the elements behind one stand behind it
-pub AllPairs-behind : {X : Type 0} (R : X → X → Type 0) (xs : List X) (x : X) (ys : List X)
+pub AllPairs-after : {X : Type 0} (R : X → X → Type 0) (xs : List X) (x : X) (ys : List X)
     → AllPairs R (xs ++ x ∷ ys) → All (R x) ys
-AllPairs-behind R [] x ys pairs = AllPairs-head R x ys pairs
-AllPairs-behind R (first ∷ xs) x ys pairs =
-    AllPairs-behind R xs x ys (AllPairs-tail R first (xs ++ x ∷ ys) pairs)
+AllPairs-after R [] x ys pairs = AllPairs-head R x ys pairs
+AllPairs-after R (first ∷ xs) x ys pairs =
+    AllPairs-after R xs x ys (AllPairs-tail R first (xs ++ x ∷ ys) pairs)
 
 -- the elements before one stand before it
 pub AllPairs-before : {X : Type 0} (R : X → X → Type 0) (xs : List X) (x : X) (ys : List X)

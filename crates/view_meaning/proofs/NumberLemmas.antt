@@ -55,13 +55,13 @@ has-above first number xs above at_most =
     ne_eqb number (get_or xs index default) (λ same. omega arith))
 
 -- a list has its first number
-has-first : (first : ℕ) (xs : List ℕ) → has (first ∷ xs) first ≡ true
-has-first first xs = or_left (nat_eq first first) (has xs first) (eq-eqb first first refl)
+has-start : (first : ℕ) (xs : List ℕ) → has (first ∷ xs) first ≡ true
+has-start first xs = or_left (nat_eq first first) (has xs first) (eq-eqb first first refl)
 
 -- a rising list has no number below its first
-first-le : (first number : ℕ) (xs : List ℕ) → All (λ x. first < x) xs
+has-le : (first number : ℕ) (xs : List ℕ) → All (λ x. first < x) xs
     → has (first ∷ xs) number ≡ true → first ≤ number
-first-le first number xs above there = ⊎_elim
+has-le first number xs above there = ⊎_elim
     (λ below. absurd (both_ways (has (first ∷ xs) number)
     (or_from (nat_eq number first) (has xs number) (ne_eqb number first (λ same. omega arith))
     (has-above first number xs above (omega arith))) there))
@@ -77,14 +77,14 @@ has-rest first number xs other = rw (ne_eqb number first other) refl
 pub rising-same : (xs ys : List ℕ) → AllPairs (λ x y. x < y) xs → AllPairs (λ x y. x < y) ys
     → ((number : ℕ) → has xs number ≡ has ys number) → xs ≡ ys
 rising-same [] [] rising also same = refl
-rising-same [] (y ∷ ys) rising also same = absurd (false≢true (same y ∙ has-first y ys))
+rising-same [] (y ∷ ys) rising also same = absurd (false≢true (same y ∙ has-start y ys))
 rising-same (x ∷ xs) [] rising also same =
-    absurd (false≢true (sym (same x) ∙ has-first x xs))
+    absurd (false≢true (sym (same x) ∙ has-start x xs))
 rising-same (x ∷ xs) (y ∷ ys) rising also same =
     let above = AllPairs-head (λ x y. x < y) x xs rising in
     let above_too = AllPairs-head (λ x y. x < y) y ys also in
-    let forth = first-le y x ys above_too (sym (same x) ∙ has-first x xs) in
-    let back = first-le x y xs above (same y ∙ has-first y ys) in
+    let forth = has-le y x ys above_too (sym (same x) ∙ has-start x xs) in
+    let back = has-le x y xs above (same y ∙ has-start y ys) in
     let firsts : x ≡ y = omega arith in
     let rest : (number : ℕ) → has xs number ≡ has ys number = λ number. ⊎_elim
     (λ here. has-above x number xs above (omega arith)

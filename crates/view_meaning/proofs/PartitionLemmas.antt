@@ -54,9 +54,9 @@ is_met-within width from to part some in_order in_time at_least at_most =
     lt-ltb (max (start_of width part) from) (min (end_of width part) to) (omega arith)
 
 -- a partition behind that of the last tick shares none with the span
-is_met-behind : (width from to part : ℕ) → 1 ≤ width → (to - 1) / width < part
+is_met-after : (width from to part : ℕ) → 1 ≤ width → (to - 1) / width < part
     → is_met width from to part ≡ false
-is_met-behind width from to part some behind =
+is_met-after width from to part some behind =
     let starts : ((to - 1) / width + 1) * width ≤ part * width =
     mul-le-mul_right width (omega arith) in
     let last : to - 1 < (to - 1) / width * width + width = lt-div-mul-add (omega arith) in
@@ -75,7 +75,7 @@ parts_met-run width from to is_width in_order in_time =
     (λ part below. is_met-before width from to part below)
     (λ part at_least below.
     is_met-within width from to part is_width.some in_order in_time at_least (omega arith))
-    (λ part at_least. is_met-behind width from to part is_width.some (omega arith))
+    (λ part at_least. is_met-after width from to part is_width.some (omega arith))
     ∙ ap (λ (many : ℕ). range_with_len (from / width) many) (omega arith)
 
 -- the next partition begins a width behind

@@ -20,7 +20,7 @@ use Rattle.view_meaning.specs.TableRows.{lies_in_table, cells_where}
 use Rattle.view_meaning.specs.SetAside.{kept, kept_rows}
 use Rattle.view_meaning.specs.Versions.{touches, loads_after, raw_version, is_raw, version}
 use Rattle.view_meaning.proofs.ListLemmas.{list_any-agree, filter-none}
-use Rattle.view_meaning.proofs.SetAsideLemmas.{kept-append, kept_rows-all}
+use Rattle.view_meaning.proofs.SetAsideLemmas.{kept-push, kept_rows-all}
 
 -- the cells of two lists of rows are those of the first, then those of the second
 pub cells_where-append : (test : DRow → Bool) (rows more : List DRow)
@@ -31,30 +31,30 @@ cells_where-append test rows more =
     ∙ map-append (λ (row : DRow). row.cells) (filter test rows) (filter test more)
 
 -- one delivery more adds its rows of the partition at the end
-pub raw_value-append : (desc : DescOf) (accepted : List DeliveryOf) (key : Key)
+pub raw_value-push : (desc : DescOf) (accepted : List DeliveryOf) (key : Key)
     (delivery : DeliveryOf)
     → raw_value desc (accepted ++ delivery ∷ []) key
     ≡ raw_value desc accepted key ++ cells_where (lies_in desc key) delivery.rows
-raw_value-append desc accepted key delivery =
+raw_value-push desc accepted key delivery =
     ap (λ (rows : List DRow). cells_where (lies_in desc key) rows)
-    (kept-append desc accepted delivery
+    (kept-push desc accepted delivery
     ∙ ap (λ (rows : List DRow). kept desc accepted ++ rows)
     (kept_rows-all desc accepted delivery))
     ∙ cells_where-append (lies_in desc key) (kept desc accepted) delivery.rows
 
 -- one delivery more behind the others counts where it keeps a row in the partition
-loads_after-append : (desc : DescOf) (key : Key) (before accepted : List DeliveryOf)
+loads_after-push : (desc : DescOf) (key : Key) (before accepted : List DeliveryOf)
     (delivery : DeliveryOf)
     → loads_after desc key before (accepted ++ delivery ∷ [])
     ≡ loads_after desc key before accepted
     + (if touches desc key (before ++ accepted) delivery then 1 else 0)
-loads_after-append desc key before [] delivery =
+loads_after-push desc key before [] delivery =
     add_comm (if touches desc key before delivery then 1 else 0) 0
     ∙ ap (λ (all : List DeliveryOf). 0 + (if touches desc key all delivery then 1 else 0))
     (sym (append-nil before))
-loads_after-append desc key before (first ∷ later) delivery =
+loads_after-push desc key before (first ∷ later) delivery =
     ap (λ (count : ℕ). (if touches desc key before first then 1 else 0) + count)
-    (loads_after-append desc key (before ++ first ∷ []) later delivery
+    (loads_after-push desc key (before ++ first ∷ []) later delivery
     ∙ ap (λ (all : List DeliveryOf).
     loads_after desc key (before ++ first ∷ []) later
     + (if touches desc key all delivery then 1 else 0))
@@ -64,13 +64,13 @@ loads_after-append desc key before (first ∷ later) delivery =
     (if touches desc key (before ++ first ∷ later) delivery then 1 else 0))
 
 -- one delivery more counts where it has a row in the partition
-pub raw_version-append : (desc : DescOf) (accepted : List DeliveryOf) (key : Key)
+pub raw_version-push : (desc : DescOf) (accepted : List DeliveryOf) (key : Key)
     (delivery : DeliveryOf)
     → raw_version desc (accepted ++ delivery ∷ []) key
     ≡ raw_version desc accepted key
     + (if list_any (lies_in desc key) delivery.rows then 1 else 0)
-raw_version-append desc accepted key delivery =
-    loads_after-append desc key [] accepted delivery
+raw_version-push desc accepted key delivery =
+    loads_after-push desc key [] accepted delivery
     ∙ ap (λ (rows : List DRow).
     raw_version desc accepted key + (if list_any (lies_in desc key) rows then 1 else 0))
     (kept_rows-all desc accepted delivery)
@@ -87,42 +87,42 @@ lies_in-table : (desc : DescOf) (key : Key) (table : TableOf)
 lies_in-table desc key table found row = rw found refl
 
 -- one delivery more of the list
-take-delivery : (accepted : List DeliveryOf) (index : ℕ) (delivery : DeliveryOf)
+take-push : (accepted : List DeliveryOf) (index : ℕ) (delivery : DeliveryOf)
     → index < length accepted → delivery ≡ get_or accepted index delivery
     → take (index + 1) accepted ≡ take index accepted ++ delivery ∷ []
-take-delivery accepted index delivery below read =
+take-push accepted index delivery below read =
     take_more accepted index delivery below
     ∙ ap (λ (next : DeliveryOf). take index accepted ++ next ∷ []) (sym read)
 
 -- one delivery more of the list adds its rows of the partition at the end
-pub raw_value-more : (desc : DescOf) (accepted : List DeliveryOf) (key : Key)
+pub raw_value-take : (desc : DescOf) (accepted : List DeliveryOf) (key : Key)
     (table : TableOf) (index : ℕ) (delivery : DeliveryOf)
     → slice_get desc.tables key.table ≡ Some table
     → index < length accepted → delivery ≡ get_or accepted index delivery
     → raw_value desc (take (index + 1) accepted) key
     ≡ raw_value desc (take index accepted) key
     ++ cells_where (lies_in_table table key) delivery.rows
-raw_value-more desc accepted key table index delivery found below read =
+raw_value-take desc accepted key table index delivery found below read =
     ap (λ (deliveries : List DeliveryOf). raw_value desc deliveries key)
-    (take-delivery accepted index delivery below read)
-    ∙ raw_value-append desc (take index accepted) key delivery
+    (take-push accepted index delivery below read)
+    ∙ raw_value-push desc (take index accepted) key delivery
     ∙ ap (λ (rows : List DRow).
     raw_value desc (take index accepted) key ++ map (λ (row : DRow). row.cells) rows)
     (filter_agree (lies_in desc key) (lies_in_table table key)
     (lies_in-table desc key table found) delivery.rows)
 
 -- one delivery more of the list counts where it has a row in the partition
-pub raw_version-more : (desc : DescOf) (accepted : List DeliveryOf) (key : Key)
+pub raw_version-take : (desc : DescOf) (accepted : List DeliveryOf) (key : Key)
     (table : TableOf) (index : ℕ) (delivery : DeliveryOf) (has_row : Bool)
     → slice_get desc.tables key.table ≡ Some table
     → index < length accepted → delivery ≡ get_or accepted index delivery
     → has_row ≡ list_any (lies_in_table table key) delivery.rows
     → raw_version desc (take (index + 1) accepted) key
     ≡ raw_version desc (take index accepted) key + (if has_row then 1 else 0)
-raw_version-more desc accepted key table index delivery has_row found below read tested =
+raw_version-take desc accepted key table index delivery has_row found below read tested =
     ap (λ (deliveries : List DeliveryOf). raw_version desc deliveries key)
-    (take-delivery accepted index delivery below read)
-    ∙ raw_version-append desc (take index accepted) key delivery
+    (take-push accepted index delivery below read)
+    ∙ raw_version-push desc (take index accepted) key delivery
     ∙ ap (λ (test : Bool).
     raw_version desc (take index accepted) key + (if test then 1 else 0))
     (list_any-agree (lies_in desc key) (lies_in_table table key) delivery.rows

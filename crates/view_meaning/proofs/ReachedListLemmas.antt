@@ -21,7 +21,7 @@ use Rattle.view_meaning.specs.Versions.{is_raw_kind}
 use Rattle.view_meaning.specs.Drains.{view_keys}
 use Rattle.view_meaning.specs.Reached.{brings, is_reached, reached}
 use Rattle.view_meaning.specs.PartLists.{AllReached, AreInTime, AreUpTo, Gains, has, is_listed, key_of, keys_of_view, reached_of}
-use Rattle.view_meaning.proofs.ListLemmas.{list_any-agree, range_with_len-add, filter-map, filter-flat_map}
+use Rattle.view_meaning.proofs.ListLemmas.{list_any-agree, range_with_len-append, filter-map, filter-flat_map}
 use Rattle.view_meaning.proofs.BoolLemmas.{same-answer}
 use Rattle.view_meaning.proofs.KeyLemmas.{AllPairs-all_parts}
 use Rattle.view_meaning.proofs.NumberLemmas.{has-filter, rising-same}
@@ -76,11 +76,11 @@ has-reached desc deliveries lists number table brought gained earlier there next
     ∙ sym (is_reached-step desc deliveries key earlier)
 
 -- one list more
-pub AllReached-more : (desc : DescOf) (deliveries : List DeliveryOf) (lists : List (List ℕ))
+pub AllReached-push : (desc : DescOf) (deliveries : List DeliveryOf) (lists : List (List ℕ))
     (parts : List ℕ) → AllReached desc deliveries lists
     → ((part : ℕ) → has parts part ≡ is_reached desc deliveries (key_of (length lists) part))
     → AllReached desc deliveries (lists ++ parts ∷ [])
-AllReached-more desc deliveries lists parts reached own table part within = ⊎_elim
+AllReached-push desc deliveries lists parts reached own table part within = ⊎_elim
     (λ below. ap (λ (parts : List ℕ). has parts part)
     (get_or_append_left lists (parts ∷ []) [] table below) ∙ reached table part below)
     (λ behind. let last : table ≡ length lists = omega (arith, length-append lists (parts ∷ [])) in
@@ -133,14 +133,14 @@ keys_of_view-reached desc deliveries number table parts earlier aligned there ri
         ∙ sym (filter-map (is_reached desc deliveries) (key_of number) (all_parts table.width))
 
 -- the keys of the tables up to one are those of the tables before it, then those of that one
-pub reached_of-more : (desc : DescOf) (deliveries : List DeliveryOf) (number : ℕ)
+pub reached_of-push : (desc : DescOf) (deliveries : List DeliveryOf) (number : ℕ)
     → flat_map (reached_of desc deliveries) (range_with_len 0 (number + 1))
     ≡ flat_map (reached_of desc deliveries) (range_with_len 0 number)
     ++ reached_of desc deliveries number
-reached_of-more desc deliveries number =
+reached_of-push desc deliveries number =
     let keys = reached_of desc deliveries in
     ap (λ (numbers : List ℕ). flat_map keys numbers)
-    (range_with_len-add 0 number 1 number (omega arith))
+    (range_with_len-append 0 number 1 number (omega arith))
     ∙ flat_map-append keys (range_with_len 0 number) (number ∷ [])
     ∙ ap (λ (last : List Key). flat_map keys (range_with_len 0 number) ++ last)
     (append-nil (keys number))
@@ -155,22 +155,22 @@ reached_of-all desc deliveries =
     (range_with_len 0 (length desc.tables)))
 
 -- one table more
-pub AreUpTo-more : (desc : DescOf) (deliveries : List DeliveryOf) (lists : List (List ℕ))
+pub AreUpTo-push : (desc : DescOf) (deliveries : List DeliveryOf) (lists : List (List ℕ))
     (keys : List Key) (number : ℕ) (table : TableOf) (parts : List ℕ)
     → HasEarlierSources desc → HasAlignedSources desc
     → slice_get desc.tables number ≡ Some table → number ≡ length lists → IsStrictlyIncreasing parts
     → ((part : ℕ) → has parts part ≡ is_reached desc deliveries (key_of number part))
     → AreUpTo desc deliveries lists keys
     → AreUpTo desc deliveries (lists ++ parts ∷ []) (keys ++ keys_of_view number table.kind parts)
-AreUpTo-more desc deliveries lists keys number table parts earlier aligned there next rising exact
+AreUpTo-push desc deliveries lists keys number table parts earlier aligned there next rising exact
     up_to = record {
-      listed = AllReached-more desc deliveries lists parts up_to.listed (rw next at exact);
+      listed = AllReached-push desc deliveries lists parts up_to.listed (rw next at exact);
       told = ap (λ (own : List Key). keys ++ own)
           (keys_of_view-reached desc deliveries number table parts earlier aligned there rising
           exact)
           ∙ ap (λ (before : List Key). before ++ reached_of desc deliveries number)
           (rw (← next) at up_to.told)
-          ∙ sym (reached_of-more desc deliveries number)
+          ∙ sym (reached_of-push desc deliveries number)
           ∙ ap (λ (many : ℕ). flat_map (reached_of desc deliveries) (range_with_len 0 many))
           (omega (arith, length-append lists (parts ∷ [])));
     }

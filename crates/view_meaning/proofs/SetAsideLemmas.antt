@@ -21,15 +21,15 @@ aside_rows-none desc before delivery =
     filter-none (is_late desc before) delivery.rows (λ _ _ _. refl)
 
 -- the rows that one delivery more keeps come last
-kept_after-append : (desc : DescOf) (before accepted : List DeliveryOf) (delivery : DeliveryOf)
+kept_after-push : (desc : DescOf) (before accepted : List DeliveryOf) (delivery : DeliveryOf)
     → kept_after desc before (accepted ++ delivery ∷ [])
     ≡ kept_after desc before accepted ++ kept_rows desc (before ++ accepted) delivery
-kept_after-append desc before [] delivery =
+kept_after-push desc before [] delivery =
     append-nil (kept_rows desc before delivery)
     ∙ ap (λ (all : List DeliveryOf). kept_rows desc all delivery) (sym (append-nil before))
-kept_after-append desc before (first ∷ later) delivery =
+kept_after-push desc before (first ∷ later) delivery =
     ap (λ (rest : List DRow). kept_rows desc before first ++ rest)
-    (kept_after-append desc (before ++ first ∷ []) later delivery
+    (kept_after-push desc (before ++ first ∷ []) later delivery
     ∙ ap (λ (all : List DeliveryOf).
     kept_after desc (before ++ first ∷ []) later ++ kept_rows desc all delivery)
     (append_assoc before (first ∷ []) later))
@@ -38,6 +38,6 @@ kept_after-append desc before (first ∷ later) delivery =
     (kept_rows desc (before ++ first ∷ later) delivery))
 
 -- the rows that one delivery more keeps come last, behind those of all before it
-pub kept-append : (desc : DescOf) (accepted : List DeliveryOf) (delivery : DeliveryOf)
+pub kept-push : (desc : DescOf) (accepted : List DeliveryOf) (delivery : DeliveryOf)
     → kept desc (accepted ++ delivery ∷ []) ≡ kept desc accepted ++ kept_rows desc accepted delivery
-kept-append desc accepted delivery = kept_after-append desc [] accepted delivery
+kept-push desc accepted delivery = kept_after-push desc [] accepted delivery

@@ -18,7 +18,7 @@ use Rattle.view_meaning.specs.Shown.{upto, HasShownContents}
 use Rattle.view_meaning.proofs.KeyLemmas.{sources_of-raw}
 use Rattle.view_meaning.proofs.VersionLemmas.{last_place-none, nth_place-last, version-view}
 use Rattle.view_meaning.proofs.SettledLemmas.{is_settled-no_sources}
-use Rattle.view_meaning.proofs.ContentLemmas.{content_within-first, settled_values, value-nothing}
+use Rattle.view_meaning.proofs.ContentLemmas.{content_within-start, settled_values, value-empty}
 use Rattle.view_meaning.proofs.InstallValueLemmas.{install_values}
 
 -- the rows of a raw partition count all entries
@@ -50,8 +50,8 @@ content-view desc journal key earlier legal view =
         ≡ over (last_place journal key)
     at_places [] none =
         ap (λ (places : List ℕ). content desc journal key (length places)) none
-        ∙ content_within-first (suc key.table) desc journal key
-        ∙ sym (value-nothing desc key)
+        ∙ content_within-start (suc key.table) desc journal key
+        ∙ sym (value-empty desc key)
         ∙ ap over (sym (last_place-none journal key none))
     at_places (place ∷ later) some =
         ap (λ (places : List ℕ). content desc journal key (length places)) some

@@ -29,11 +29,11 @@ use Rattle.view_meaning.proofs.ListLemmas.{list_all-agree, list_all-not, list_al
 use Rattle.view_meaning.proofs.JournalLemmas.{accepted-append, accepted-map-Load}
 use Rattle.view_meaning.proofs.KeyLemmas.{all_view_keys-not_raw, all_view_keys-parts, sources_of-parts}
 use Rattle.view_meaning.proofs.LegalLemmas.{last_place-le}
-use Rattle.view_meaning.proofs.RawLemmas.{raw_version-append, version-raw}
+use Rattle.view_meaning.proofs.RawLemmas.{raw_version-push, version-raw}
 use Rattle.view_meaning.proofs.ReachedLemmas.{brings-none, is_reached-step}
 use Rattle.view_meaning.proofs.SettledLemmas.{is_settled-step, is_stale-settled, recorded-current}
 use Rattle.view_meaning.proofs.SourceLemmas.{sources_of-earlier}
-use Rattle.view_meaning.proofs.VersionLemmas.{install_places-stay, raw_version-le, recorded-stay, version-view}
+use Rattle.view_meaning.proofs.VersionLemmas.{install_places-same, raw_version-le, recorded-same, version-view}
 
 -- a journal with these deliveries loaded at its end
 abbrev with_loads : List Entry → List DeliveryOf → List Entry
@@ -73,21 +73,21 @@ brings-not_raw desc deliveries key view =
     brings-none desc deliveries key (λ row. lies_in-not_raw desc key row view)
 
 -- deliveries more leave the version of a raw partition just where none of them brings a row of it
-raw_version-same : (desc : DescOf) (accepted more : List DeliveryOf) (key : Key)
+raw_version-append : (desc : DescOf) (accepted more : List DeliveryOf) (key : Key)
     → nat_eq (raw_version desc accepted key) (raw_version desc (accepted ++ more) key)
     ≡ not (list_any (brings key desc) more)
-raw_version-same desc accepted [] key =
+raw_version-append desc accepted [] key =
     eq-eqb (raw_version desc accepted key) (raw_version desc (accepted ++ []) key)
     (ap (λ (all : List DeliveryOf). raw_version desc all key) (sym (append-nil accepted)))
-raw_version-same desc accepted (delivery ∷ later) key =
+raw_version-append desc accepted (delivery ∷ later) key =
     let next = accepted ++ delivery ∷ [] in
     ap (λ (all : List DeliveryOf).
     nat_eq (raw_version desc accepted key) (raw_version desc all key))
     (sym (append_assoc accepted (delivery ∷ []) later))
     ∙ one (brings key desc delivery) (raw_version desc accepted key) (raw_version desc next key)
     (raw_version desc (next ++ later) key) (list_any (brings key desc) later)
-    (raw_version-append desc accepted key delivery) (raw_version-le desc next later key)
-    (raw_version-same desc next later key)
+    (raw_version-push desc accepted key delivery) (raw_version-le desc next later key)
+    (raw_version-append desc next later key)
   where
     one : (brought : Bool) (old new all : ℕ) (rest : Bool)
         → new ≡ old + (if brought then 1 else 0) → new ≤ all → nat_eq new all ≡ not rest
@@ -97,10 +97,10 @@ raw_version-same desc accepted (delivery ∷ later) key =
         ap (λ (count : ℕ). nat_eq count all) (omega arith) ∙ same
 
 -- loads leave a version just where they bring no row of the partition
-version-same : (desc : DescOf) (journal : List Entry) (deliveries : List DeliveryOf) (key : Key)
+version-with_loads : (desc : DescOf) (journal : List Entry) (deliveries : List DeliveryOf) (key : Key)
     → nat_eq (version desc journal key) (version desc (with_loads journal deliveries) key)
     ≡ not (list_any (brings key desc) deliveries)
-version-same desc journal deliveries key =
+version-with_loads desc journal deliveries key =
     elim (cases_Bool (is_raw (slice_get desc.tables key.table))) [
       | inl raw ↦
           let after : version desc (with_loads journal deliveries) key
@@ -111,11 +111,11 @@ version-same desc journal deliveries key =
           ∙ ap (λ (more : List DeliveryOf). accepted journal ++ more)
           (accepted-map-Load deliveries)) in
           rw (version-raw desc journal key raw, after)
-          (raw_version-same desc (accepted journal) deliveries key)
+          (raw_version-append desc (accepted journal) deliveries key)
       | inr view ↦
           let installs : install_places (with_loads journal deliveries) key
           ≡ install_places journal key =
-          install_places-stay journal (map entry.Load deliveries) key
+          install_places-same journal (map entry.Load deliveries) key
           (install_places-Load deliveries key) in
           eq-eqb (version desc journal key) (version desc (with_loads journal deliveries) key)
           (version-view desc journal key view
@@ -134,7 +134,7 @@ is_stale-with_loads desc journal deliveries key earlier legal settled =
     let sources = sources_of desc key in
     let loaded = with_loads journal deliveries in
     let before : recorded desc loaded key ≡ current desc journal key =
-    recorded-stay desc journal (map entry.Load deliveries) key
+    recorded-same desc journal (map entry.Load deliveries) key
     (last_place-le desc journal key legal) (install_places-Load deliveries key)
     ∙ recorded-current desc journal key (is_stale-settled desc journal key earlier settled) in
     not-not (pointwise nat_eq (recorded desc loaded key) (current desc loaded key))
@@ -142,7 +142,7 @@ is_stale-with_loads desc journal deliveries key earlier legal settled =
     ∙ pointwise-map (version desc journal) (version desc loaded) sources
     ∙ list_all-agree (λ source. nat_eq (version desc journal source) (version desc loaded source))
     (λ source. not (list_any (brings source desc) deliveries)) sources
-    (λ index default _. version-same desc journal deliveries (get_or sources index default))
+    (λ index default _. version-with_loads desc journal deliveries (get_or sources index default))
 
 -- it is settled just where they reach none of its sources
 is_settled-with_loads : (depth : ℕ) (desc : DescOf) (journal : List Entry)

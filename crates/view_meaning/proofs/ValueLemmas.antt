@@ -23,13 +23,13 @@ use Rattle.view_meaning.specs.Versions.{is_raw_kind}
 use Rattle.view_meaning.specs.Values.{value_over, value_within}
 
 -- where some tables may be gone down through, the value is that over the tables one further down
-value_within-down : (desc : DescOf) (accepted : List DeliveryOf) (depth : ℕ) (key : Key)
+value_within-step : (desc : DescOf) (accepted : List DeliveryOf) (depth : ℕ) (key : Key)
     → 0 < depth
     → value_within depth desc accepted key
     ≡ value_over desc accepted (value_within (depth - 1) desc accepted) key
     (slice_get desc.tables key.table)
-value_within-down desc accepted zero key some = absurd (omega (arith, some))
-value_within-down desc accepted (suc depth) key some =
+value_within-step desc accepted zero key some = absurd (omega (arith, some))
+value_within-step desc accepted (suc depth) key some =
     ap (λ (below : ℕ). value_over desc accepted (value_within below desc accepted) key
     (slice_get desc.tables key.table))
     (omega arith)
@@ -48,11 +48,11 @@ rows_of_run rows table from many =
     flat_map rows (map (λ part. record { table = table; part = part }) (range_with_len from many))
 
 -- one partition more adds its rows at the end
-rows_of_run-more : (rows : Key → List (List Cell)) (table from many part : ℕ)
+rows_of_run-push : (rows : Key → List (List Cell)) (table from many part : ℕ)
     → from + many ≡ part
     → rows_of_run rows table from (many + 1)
     ≡ rows_of_run rows table from many ++ rows (record { table = table; part = part })
-rows_of_run-more rows table from many part next =
+rows_of_run-push rows table from many part next =
     let key : ℕ → Key = λ (part : ℕ). record { table = table; part = part } in
     ap (λ (keys : List Key). flat_map rows keys) (map-range_with_len_more key from many part next)
     ∙ flat_map-append rows (map key (range_with_len from many)) (key part ∷ [])
@@ -68,7 +68,7 @@ filtered-rows_of_run conds keep rows table from part at_least =
     ap (λ (many : ℕ). filtered conds keep (rows_of_run rows table from many))
     (let count : part + 1 - from ≡ part - from + 1 = omega arith in count)
     ∙ ap (λ (all : List (List Cell)). filtered conds keep all)
-    (rows_of_run-more rows table from (part - from) part (omega arith))
+    (rows_of_run-push rows table from (part - from) part (omega arith))
     ∙ filtered-append conds keep (rows_of_run rows table from (part - from))
     (rows (record { table = table; part = part }))
 
@@ -78,7 +78,7 @@ pub value_within-raw : (desc : DescOf) (accepted : List DeliveryOf) (depth : ℕ
     → is_raw_kind table.kind ≡ true
     → value_within depth desc accepted key ≡ raw_value desc accepted key
 value_within-raw desc accepted depth key table some found raw =
-    value_within-down desc accepted depth key some ∙ rw (found, raw) refl
+    value_within-step desc accepted depth key some ∙ rw (found, raw) refl
 
 -- the value of a filter's partition is what it makes of the rows of a run, where its source
 -- partitions are that run
@@ -92,4 +92,4 @@ pub value_within-filter : (desc : DescOf) (accepted : List DeliveryOf) (depth : 
     ≡ filtered conds keep
     (rows_of_run (value_within (depth - 1) desc accepted) src.table first count)
 value_within-filter desc accepted depth key table src conds keep first count some found kind run =
-    value_within-down desc accepted depth key some ∙ rw (found, kind, run) refl
+    value_within-step desc accepted depth key some ∙ rw (found, kind, run) refl

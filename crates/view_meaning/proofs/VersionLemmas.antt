@@ -24,9 +24,9 @@ install_places-append journal more key =
     ∙ map-append place_of (filter (installs key) journal) (filter (installs key) more)
 
 -- they stay where the second has none
-pub install_places-stay : (journal more : List Entry) (key : Key) → install_places more key ≡ []
+pub install_places-same : (journal more : List Entry) (key : Key) → install_places more key ≡ []
     → install_places (journal ++ more) key ≡ install_places journal key
-install_places-stay journal more key none =
+install_places-same journal more key none =
     install_places-append journal more key
     ∙ ap (λ (places : List ℕ). install_places journal key ++ places) none
     ∙ append-nil (install_places journal key)
@@ -72,25 +72,25 @@ version-take-le desc count journal key =
     (version-le desc (take count journal) (drop count journal) key)
 
 -- it stays where nothing is loaded and the partition is not installed
-pub version-stay : (desc : DescOf) (journal more : List Entry) (key : Key)
+pub version-same : (desc : DescOf) (journal more : List Entry) (key : Key)
     → accepted more ≡ [] → install_places more key ≡ []
     → version desc (journal ++ more) key ≡ version desc journal key
-version-stay desc journal more key no_load no_install =
+version-same desc journal more key no_load no_install =
     let loads : accepted (journal ++ more) ≡ accepted journal =
     accepted-append journal more
     ∙ ap (λ (deliveries : List DeliveryOf). accepted journal ++ deliveries) no_load
     ∙ append-nil (accepted journal) in
     let places : install_places (journal ++ more) key ≡ install_places journal key =
-    install_places-stay journal more key no_install in
+    install_places-same journal more key no_install in
     λ i. if is_raw (slice_get desc.tables key.table) then raw_version desc (loads i) key
     else length (places i)
 
 -- the last install is the same one where the partition is not installed since
-pub last_place-stay : (journal more : List Entry) (key : Key) → install_places more key ≡ []
+pub last_place-same : (journal more : List Entry) (key : Key) → install_places more key ≡ []
     → last_place (journal ++ more) key ≡ last_place journal key
-last_place-stay journal more key none =
+last_place-same journal more key none =
     ap (λ (places : List ℕ). fold (λ _ place. place) 0 places)
-    (install_places-stay journal more key none)
+    (install_places-same journal more key none)
 
 -- a partition without an install has no last place
 pub last_place-none : (journal : List Entry) (key : Key) → install_places journal key ≡ []
@@ -122,16 +122,16 @@ abbrev pub seen : List Entry → Key → List Entry
 seen journal key = take (last_place journal key) journal
 
 -- they are the same ones where the partition is not installed since
-pub seen-stay : (journal more : List Entry) (key : Key)
+pub seen-same : (journal more : List Entry) (key : Key)
     → last_place journal key ≤ length journal → install_places more key ≡ []
     → seen (journal ++ more) key ≡ seen journal key
-seen-stay journal more key within none =
-    ap (λ (place : ℕ). take place (journal ++ more)) (last_place-stay journal more key none)
+seen-same journal more key within none =
+    ap (λ (place : ℕ). take place (journal ++ more)) (last_place-same journal more key none)
     ∙ take-append-le (last_place journal key) journal more within
 
 -- what the last install recorded stays where the partition is not installed since
-pub recorded-stay : (desc : DescOf) (journal more : List Entry) (key : Key)
+pub recorded-same : (desc : DescOf) (journal more : List Entry) (key : Key)
     → last_place journal key ≤ length journal → install_places more key ≡ []
     → recorded desc (journal ++ more) key ≡ recorded desc journal key
-recorded-stay desc journal more key within none =
-    ap (λ (before : List Entry). current desc before key) (seen-stay journal more key within none)
+recorded-same desc journal more key within none =
+    ap (λ (before : List Entry). current desc before key) (seen-same journal more key within none)

@@ -1,5 +1,5 @@
 use Rattle.std.proofs.Common.{sym, arith}
-use Rattle.view_meaning.proofs.RawLemmas.{raw_version-more, raw_version-no_table}
+use Rattle.view_meaning.proofs.RawLemmas.{raw_version-take, raw_version-no_table}
 use Rattle.view_meaning.proofs.plain.plain_version.Goals as goal
 use Rattle.view_meaning.proofs.plain.plain_version.Goals.{then-touches, else-touches}
 
@@ -11,7 +11,7 @@ returns-in_default c = record {
 
 pub loop-delivery-preserved : goal.loop-delivery-preserved
 loop-delivery-preserved c =
-    let more = raw_version-more c.args.desc.now c.args.accepted.now c.args.key
+    let more = raw_version-take c.args.desc.now c.args.accepted.now c.args.key
     c.in-Some.table.now c.loop-delivery.delivery-index c.delivery-item.result c.touches.result
     (sym c.in-Some.ensures) c.loop-delivery-test.true c.delivery-item.is c.touches.ensures in
     elim c.if-touches.branch [

@@ -1,5 +1,5 @@
 use Rattle.std.proofs.Common.{sym, ◌∙◌}
-use Rattle.view_meaning.proofs.RawLemmas.{raw_value-more, raw_value-no_table}
+use Rattle.view_meaning.proofs.RawLemmas.{raw_value-take, raw_value-no_table}
 use Rattle.view_meaning.proofs.plain.raw_rows.Goals as goal
 
 pub returns-in_default : goal.returns-in_default
@@ -11,7 +11,7 @@ returns-in_default c = record {
 
 pub loop-delivery-preserved : goal.loop-delivery-preserved
 loop-delivery-preserved c =
-    let more = raw_value-more c.args.desc.now c.args.accepted.now c.args.key
+    let more = raw_value-take c.args.desc.now c.args.accepted.now c.args.key
     c.in-Some.table.now c.loop-delivery.delivery-index c.delivery-item.result
     (sym c.in-Some.ensures) c.loop-delivery-test.true c.delivery-item.is in
     rw c.loop-delivery.invariant at c.in_ok-push_rows.ensures.ok ∙ sym more

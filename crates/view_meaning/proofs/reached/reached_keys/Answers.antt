@@ -4,7 +4,7 @@ use Rattle.std.proofs.lemmas.Iterator.Adapters.{YieldsList-from_vec}
 use Rattle.std.proofs.lemmas.Iterator.Consumers.{YieldsList-turn, YieldsList-end}
 use Rattle.view_meaning.specs.PartLists.{lists_of}
 use Rattle.view_meaning.proofs.PartListLemmas.{AreBrought-at, length-lists_of}
-use Rattle.view_meaning.proofs.ReachedListLemmas.{AreInTime-AllReached, AreUpTo-more, has-reached, reached_of-all}
+use Rattle.view_meaning.proofs.ReachedListLemmas.{AreInTime-AllReached, AreUpTo-push, has-reached, reached_of-all}
 use Rattle.view_meaning.proofs.reached.reached_keys.Goals as goal
 
 pub push_above-requires-clause-in_time : goal.push_above-requires-clause-in_time
@@ -57,7 +57,7 @@ loop-parts-preserved c =
         c.in_ok-push_view_keys.ensures.ok,
         c.deref-in-loop-parts.ensures.value,
       )
-          (AreUpTo-more desc deliveries lists c.loop-parts.keys.items number table
+          (AreUpTo-push desc deliveries lists c.loop-parts.keys.items number table
           c.sort_parts.new.parts.items c.requires.earlier c.requires.aligned
           c.table_at-table.ensures next c.sort_parts.ensures.rising
           (λ part. c.sort_parts.ensures.same part ∙ gained part) c.loop-parts.invariant.up_to);
