@@ -228,31 +228,42 @@ range_with_len-append from (suc many) more next follows =
     ap (λ (count : ℕ). range_with_len from count) count
     ∙ ap (λ rest. from ∷ rest) (range_with_len-append (from + 1) many more next (omega arith))
 
+-- a test that passes no number of a run keeps none
+filter-range_with_len-none : (test : ℕ → Bool) (from many : ℕ)
+    → ((number : ℕ) → from ≤ number → number < from + many → test number ≡ false)
+    → filter test (range_with_len from many) ≡ []
+filter-range_with_len-none test from many fails =
+    filter-none test (range_with_len from many)
+    (All-range_with_len (λ number. test number ≡ false) from many fails)
+
+-- one that passes each number of a run keeps all
+filter-range_with_len-all : (test : ℕ → Bool) (from many : ℕ)
+    → ((number : ℕ) → from ≤ number → number < from + many → test number ≡ true)
+    → filter test (range_with_len from many) ≡ range_with_len from many
+filter-range_with_len-all test from many passes =
+    filter-all test (range_with_len from many)
+    (All-range_with_len (λ number. test number ≡ true) from many passes)
+
 -- a test that passes exactly on the numbers from one up to another keeps those
 pub filter-range_with_len : (test : ℕ → Bool) (from to bound : ℕ) → from ≤ to → to ≤ bound
     → ((number : ℕ) → number < from → test number ≡ false)
     → ((number : ℕ) → from ≤ number → number < to → test number ≡ true)
     → ((number : ℕ) → to ≤ number → test number ≡ false)
     → filter test (range_with_len 0 bound) ≡ range_with_len from (to - from)
-filter-range_with_len test from to bound in_order within before passes behind =
-    let none_before : filter test (range_with_len 0 from) ≡ [] =
-    filter-none test _ (All-range_with_len (λ number. test number ≡ false) 0 from
-    (λ number _ below. before number (omega arith))) in
-    let all_between : filter test (range_with_len from (to - from))
-    ≡ range_with_len from (to - from) =
-    filter-all test _ (All-range_with_len (λ number. test number ≡ true) from (to - from)
-    (λ number at_least below. passes number at_least (omega arith))) in
-    let none_behind : filter test (range_with_len to (bound - to)) ≡ [] =
-    filter-none test _ (All-range_with_len (λ number. test number ≡ false) to (bound - to)
-    (λ number at_least _. behind number at_least)) in
-    ap (λ (many : ℕ). filter test (range_with_len 0 many))
-    (let whole : bound ≡ from + ((to - from) + (bound - to)) = omega arith in whole)
-    ∙ rw (range_with_len-append 0 from ((to - from) + (bound - to)) from (omega arith))
-    (rw (range_with_len-append from (to - from) (bound - to) to (omega arith))
-    (rw (filter-append test (range_with_len 0 from)
-    (range_with_len from (to - from) ++ range_with_len to (bound - to)))
-    (rw (filter-append test (range_with_len from (to - from)) (range_with_len to (bound - to)))
-    (rw (none_before, all_between, none_behind) (append-nil (range_with_len from (to - from)))))))
+filter-range_with_len test from to bound in_order within before passes after =
+    let whole : bound ≡ from + ((to - from) + (bound - to)) = omega arith in
+    ap (λ (many : ℕ). filter test (range_with_len 0 many)) whole
+    ∙ rw (
+      range_with_len-append 0 from ((to - from) + (bound - to)) from (omega arith),
+      range_with_len-append from (to - from) (bound - to) to (omega arith),
+      filter-append test (range_with_len 0 from)
+          (range_with_len from (to - from) ++ range_with_len to (bound - to)),
+      filter-append test (range_with_len from (to - from)) (range_with_len to (bound - to)),
+      filter-range_with_len-none test 0 from (λ number _ below. before number (omega arith)),
+      filter-range_with_len-all test from (to - from)
+          (λ number at_least below. passes number at_least (omega arith)),
+      filter-range_with_len-none test to (bound - to) (λ number at_least _. after number at_least),
+    ) (append-nil (range_with_len from (to - from)))
 
 -- a number below the bound is one of those below it
 pub list_any-range_with_len : (number bound : ℕ) → number < bound

@@ -1,8 +1,9 @@
 -- The lists of reached partitions' numbers, as the program that computes them makes one after the
 -- other, and the keys that it tells of them.
-use Rattle.std.proofs.Common.{◌≡◌, ◌∙◌, ℕ, ◌+◌, ◌<◌, List, [], ◌∷◌, ◌++◌, length, map, refl, ap, sym, arith, ⊎_elim}
-use Rattle.std.specs.Prelude.{Bool, true, false, ◌&&◌, ◌||◌, Option, Some, All, flat_map, max, min, slice_get, if◌then◌else◌}
+use Rattle.std.proofs.Common.{◌≡◌, ◌∙◌, ℕ, ◌+◌, ◌<◌, List, [], ◌∷◌, ◌++◌, length, get_or, map, refl, ap, sym, arith, ⊎_elim}
+use Rattle.std.specs.Prelude.{Bool, true, false, ◌&&◌, ◌||◌, Option, Some, All, flat_map, max, min, slice_get, if◌then◌else◌, Vec}
 use Rattle.std.specs.List.{filter, list_any, range_with_len}
+use Rattle.std.specs.declared.alloc.Global.{Global}
 use Rattle.std.specs.List.Sorted.{IsStrictlyIncreasing}
 use Rattle.std.proofs.lemmas.Bool.{and_parts, and_from, cases_lt, false≢true, ltb-true}
 use Rattle.std.proofs.lemmas.List.{append-nil, get_or_append_left, get_or_past, length-append}
@@ -20,12 +21,12 @@ use Rattle.view_meaning.specs.Partitions.{all_parts, end_of, is_met, keys_below,
 use Rattle.view_meaning.specs.Versions.{is_raw_kind}
 use Rattle.view_meaning.specs.Drains.{view_keys}
 use Rattle.view_meaning.specs.Reached.{brings, is_reached, reached}
-use Rattle.view_meaning.specs.PartLists.{AllReached, AreInTime, AreUpTo, Gains, has, is_listed, key_of, keys_of_view, reached_of}
+use Rattle.view_meaning.specs.PartLists.{AllReached, AreBrought, AreInTime, AreUpTo, Gains, has, is_listed, key_of, keys_of_view, lists_of, reached_of}
 use Rattle.view_meaning.proofs.ListLemmas.{list_any-agree, range_with_len-append, filter-map, filter-flat_map}
 use Rattle.view_meaning.proofs.BoolLemmas.{same-answer}
 use Rattle.view_meaning.proofs.KeyLemmas.{AllPairs-all_parts}
 use Rattle.view_meaning.proofs.NumberLemmas.{has-filter, rising-same}
-use Rattle.view_meaning.proofs.PartListLemmas.{has-parts_met}
+use Rattle.view_meaning.proofs.PartListLemmas.{AreBrought-at, has-parts_met, length-lists_of}
 use Rattle.view_meaning.proofs.ReachedLemmas.{is_part-is_reached, is_reached-step}
 use Rattle.view_meaning.proofs.SourceLemmas.{sources_of-earlier}
 
@@ -47,6 +48,13 @@ AreInTime-AllReached desc deliveries lists earlier aligned reached key listed = 
     (ap (λ (parts : List ℕ). has parts key.part) (sym (get_or_past lists key.table [] behind))
     ∙ listed)))
     (cases_lt key.table (length lists))
+
+-- the numbers are those of a table's partitions that are reached, in order
+pub record IsNext (desc : DescOf) (deliveries : List DeliveryOf) (number : ℕ) (table : TableOf)
+    (parts : List ℕ) : Type 0 where
+  pub there : slice_get desc.tables number ≡ Some table
+  pub rising : IsStrictlyIncreasing parts
+  pub exact : (part : ℕ) → has parts part ≡ is_reached desc deliveries (key_of number part)
 
 -- the numbers brought of a table, with those that read listed ones, are those reached of it
 pub has-reached : (desc : DescOf) (deliveries : List DeliveryOf) (lists : List (List ℕ))
@@ -76,7 +84,7 @@ has-reached desc deliveries lists number table brought gained earlier there next
     ∙ sym (is_reached-step desc deliveries key earlier)
 
 -- one list more
-pub AllReached-push : (desc : DescOf) (deliveries : List DeliveryOf) (lists : List (List ℕ))
+AllReached-push : (desc : DescOf) (deliveries : List DeliveryOf) (lists : List (List ℕ))
     (parts : List ℕ) → AllReached desc deliveries lists
     → ((part : ℕ) → has parts part ≡ is_reached desc deliveries (key_of (length lists) part))
     → AllReached desc deliveries (lists ++ parts ∷ [])
@@ -93,16 +101,23 @@ has-all_parts : (width part : ℕ) → has (all_parts width) part ≡ is_met wid
 unfolding all_parts
 has-all_parts width part = has-parts_met width 0 END part
 
--- the keys told of a view are those of its partitions that are reached
-pub keys_of_view-reached : (desc : DescOf) (deliveries : List DeliveryOf) (number : ℕ)
-    (table : TableOf) (parts : List ℕ) → HasEarlierSources desc → HasAlignedSources desc
-    → slice_get desc.tables number ≡ Some table → IsStrictlyIncreasing parts
-    → ((part : ℕ) → has parts part ≡ is_reached desc deliveries (key_of number part))
-    → keys_of_view number table.kind parts ≡ reached_of desc deliveries number
-keys_of_view-reached desc deliveries number table parts earlier aligned there rising exact =
-    at_kind (is_raw_kind table.kind)
-    ∙ ap (λ (found : Option TableOf). filter (is_reached desc deliveries) (view_keys number found))
-    (sym there)
+-- rising numbers that are reached of a table are, of all its partitions, those that are reached
+rising-reached : (desc : DescOf) (deliveries : List DeliveryOf) (number : ℕ) (table : TableOf)
+    (parts : List ℕ) → HasEarlierSources desc → HasAlignedSources desc
+    → IsNext desc deliveries number table parts
+    → parts ≡ filter (λ part. is_reached desc deliveries (key_of number part))
+    (all_parts table.width)
+rising-reached desc deliveries number table parts earlier aligned next =
+    rising-same parts (filter test (all_parts table.width))
+    (AllPairs-from_increasing parts next.rising)
+    (AllPairs-filter (λ x y. x < y) test (all_parts table.width)
+    (AllPairs-all_parts table.width))
+    (λ part. next.exact part
+    ∙ same-answer (test part) (test part && has (all_parts table.width) part)
+    (λ passes. and_from (test part) (has (all_parts table.width) part) passes
+    (in_time part passes))
+    (λ both. (and_parts (test part) (has (all_parts table.width) part) both).0)
+    ∙ sym (has-filter test (all_parts table.width) part))
   where
     test : ℕ → Bool
     test part = is_reached desc deliveries (key_of number part)
@@ -110,30 +125,30 @@ keys_of_view-reached desc deliveries number table parts earlier aligned there ri
     in_time : (part : ℕ) → test part ≡ true → has (all_parts table.width) part ≡ true
     in_time part passes =
         has-all_parts table.width part
-        ∙ ap (λ (found : Option TableOf). is_met (width_of found) 0 END part) (sym there)
+        ∙ ap (λ (found : Option TableOf). is_met (width_of found) 0 END part) (sym next.there)
         ∙ is_part-is_reached desc deliveries (key_of number part) earlier aligned passes
 
-    same : parts ≡ filter test (all_parts table.width)
-    same = rising-same parts (filter test (all_parts table.width))
-        (AllPairs-from_increasing parts rising)
-        (AllPairs-filter (λ x y. x < y) test (all_parts table.width)
-        (AllPairs-all_parts table.width))
-        (λ part. exact part
-        ∙ same-answer (test part) (test part && has (all_parts table.width) part)
-        (λ passes. and_from (test part) (has (all_parts table.width) part) passes
-        (in_time part passes))
-        (λ both. (and_parts (test part) (has (all_parts table.width) part) both).0)
-        ∙ sym (has-filter test (all_parts table.width) part))
-
+-- the keys told of a view are those of its partitions that are reached
+keys_of_view-reached : (desc : DescOf) (deliveries : List DeliveryOf) (number : ℕ)
+    (table : TableOf) (parts : List ℕ) → HasEarlierSources desc → HasAlignedSources desc
+    → IsNext desc deliveries number table parts
+    → keys_of_view number table.kind parts ≡ reached_of desc deliveries number
+keys_of_view-reached desc deliveries number table parts earlier aligned next =
+    at_kind (is_raw_kind table.kind)
+    ∙ ap (λ (found : Option TableOf). filter (is_reached desc deliveries) (view_keys number found))
+    (sym next.there)
+  where
     at_kind : (raw : Bool) → (if raw then [] else map (key_of number) parts)
         ≡ filter (is_reached desc deliveries)
         (if raw then [] else map (key_of number) (all_parts table.width))
     at_kind true = refl
-    at_kind false = ap (λ (parts : List ℕ). map (key_of number) parts) same
+    at_kind false =
+        ap (λ (parts : List ℕ). map (key_of number) parts)
+        (rising-reached desc deliveries number table parts earlier aligned next)
         ∙ sym (filter-map (is_reached desc deliveries) (key_of number) (all_parts table.width))
 
 -- the keys of the tables up to one are those of the tables before it, then those of that one
-pub reached_of-push : (desc : DescOf) (deliveries : List DeliveryOf) (number : ℕ)
+reached_of-push : (desc : DescOf) (deliveries : List DeliveryOf) (number : ℕ)
     → flat_map (reached_of desc deliveries) (range_with_len 0 (number + 1))
     ≡ flat_map (reached_of desc deliveries) (range_with_len 0 number)
     ++ reached_of desc deliveries number
@@ -157,20 +172,57 @@ reached_of-all desc deliveries =
 -- one table more
 pub AreUpTo-push : (desc : DescOf) (deliveries : List DeliveryOf) (lists : List (List ℕ))
     (keys : List Key) (number : ℕ) (table : TableOf) (parts : List ℕ)
-    → HasEarlierSources desc → HasAlignedSources desc
-    → slice_get desc.tables number ≡ Some table → number ≡ length lists → IsStrictlyIncreasing parts
-    → ((part : ℕ) → has parts part ≡ is_reached desc deliveries (key_of number part))
-    → AreUpTo desc deliveries lists keys
+    → HasEarlierSources desc → HasAlignedSources desc → number ≡ length lists
+    → IsNext desc deliveries number table parts → AreUpTo desc deliveries lists keys
     → AreUpTo desc deliveries (lists ++ parts ∷ []) (keys ++ keys_of_view number table.kind parts)
-AreUpTo-push desc deliveries lists keys number table parts earlier aligned there next rising exact
-    up_to = record {
-      listed = AllReached-push desc deliveries lists parts up_to.listed (rw next at exact);
-      told = ap (λ (own : List Key). keys ++ own)
-          (keys_of_view-reached desc deliveries number table parts earlier aligned there rising
-          exact)
-          ∙ ap (λ (before : List Key). before ++ reached_of desc deliveries number)
-          (rw (← next) at up_to.told)
-          ∙ sym (reached_of-push desc deliveries number)
-          ∙ ap (λ (many : ℕ). flat_map (reached_of desc deliveries) (range_with_len 0 many))
-          (omega (arith, length-append lists (parts ∷ [])));
+AreUpTo-push desc deliveries lists keys number table parts earlier aligned last next up_to = record {
+  listed = AllReached-push desc deliveries lists parts up_to.listed (rw last at next.exact);
+  told = ap (λ (own : List Key). keys ++ own)
+      (keys_of_view-reached desc deliveries number table parts earlier aligned next)
+      ∙ ap (λ (before : List Key). before ++ reached_of desc deliveries number)
+      (rw (← last) at up_to.told)
+      ∙ sym (reached_of-push desc deliveries number)
+      ∙ ap (λ (many : ℕ). flat_map (reached_of desc deliveries) (range_with_len 0 many))
+      (omega (arith, length-append lists (parts ∷ [])));
+}
+
+-- a turn of the program: the vector of a table that deliveries bring gains the numbers that read
+-- listed ones, and these are sorted
+pub record IsTurn (desc : DescOf) (deliveries : List DeliveryOf) (lists : List (Vec ℕ Global))
+    (number : ℕ) (table : TableOf) (all : List (Vec ℕ Global)) (parts : Vec ℕ Global)
+    (gained sorted : List ℕ) : Type 0 where
+  pub there : slice_get desc.tables number ≡ Some table
+  pub last : number ≡ length lists
+  pub within : number < length all
+  pub read : parts ≡ get_or all number parts
+  pub brought : AreBrought desc deliveries (lists_of all)
+  pub gains : Gains
+      (λ part. list_any (is_listed (lists_of lists)) (keys_below desc part (Some table)))
+      parts.items gained
+  pub rising : IsStrictlyIncreasing sorted
+  pub same : (part : ℕ) → has sorted part ≡ has gained part
+
+-- a turn makes the lists and the keys those of one table more
+pub AreUpTo-turn : (desc : DescOf) (deliveries : List DeliveryOf) (lists : List (Vec ℕ Global))
+    (keys : List Key) (number : ℕ) (table : TableOf) (all : List (Vec ℕ Global))
+    (parts : Vec ℕ Global) (gained sorted : List ℕ)
+    → HasEarlierSources desc → HasAlignedSources desc
+    → IsTurn desc deliveries lists number table all parts gained sorted
+    → AreUpTo desc deliveries (lists_of lists) keys
+    → AreUpTo desc deliveries (lists_of lists ++ sorted ∷ [])
+    (keys ++ keys_of_view number table.kind sorted)
+AreUpTo-turn desc deliveries lists keys number table all parts gained sorted earlier aligned turn
+    up_to =
+    let last : number ≡ length (lists_of lists) =
+    omega (arith, turn.last, length-lists_of lists) in
+    AreUpTo-push desc deliveries (lists_of lists) keys number table sorted earlier aligned last
+    record {
+      there = turn.there;
+      rising = turn.rising;
+      exact = λ part. turn.same part
+          ∙ has-reached desc deliveries (lists_of lists) number table parts.items gained earlier
+          turn.there last up_to.listed
+          (AreBrought-at desc deliveries all number parts turn.within turn.read turn.brought)
+          turn.gains part;
     }
+    up_to

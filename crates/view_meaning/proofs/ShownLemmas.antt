@@ -4,7 +4,6 @@ use Rattle.std.proofs.Common.{◌≡◌, ◌∙◌, ℕ, suc, List, [], ◌∷�
 use Rattle.std.specs.Prelude.{true, false, slice_get}
 use Rattle.std.proofs.lemmas.Bool.{cases_Bool}
 use Rattle.std.proofs.lemmas.List.{take_all}
-use Rattle.depot_cell.specs.declared.cell.Cell.{Cell}
 use Rattle.table_desc.specs.declared.table.Key.{Key}
 use Rattle.table_desc.specs.Descriptions.{DescOf}
 use Rattle.table_desc.specs.Sources.{HasEarlierSources}
@@ -32,6 +31,30 @@ upto-view : (desc : DescOf) (journal : List Entry) (key : Key)
     → upto desc journal key ≡ last_place journal key
 upto-view desc journal key view = rw view refl
 
+-- a view's partition without an install holds the value over no deliveries
+content-no_install : (desc : DescOf) (journal : List Entry) (key : Key)
+    → install_places journal key ≡ []
+    → content desc journal key (length (install_places journal key))
+    ≡ value desc (accepted (take (last_place journal key) journal)) key
+content-no_install desc journal key none =
+    ap (λ (places : List ℕ). content desc journal key (length places)) none
+    ∙ content_within-start (suc key.table) desc journal key
+    ∙ sym (value-empty desc key)
+    ∙ ap (λ (place : ℕ). value desc (accepted (take place journal)) key)
+    (sym (last_place-none journal key none))
+
+-- what its last install made holds the value over the deliveries that it counted
+content-last : (desc : DescOf) (journal : List Entry) (key : Key) (first : ℕ) (later : List ℕ)
+    → HasEarlierSources desc → IsLegal desc journal → install_places journal key ≡ first ∷ later
+    → content desc journal key (length (install_places journal key))
+    ≡ value desc (accepted (take (last_place journal key) journal)) key
+content-last desc journal key first later earlier legal some =
+    ap (λ (places : List ℕ). content desc journal key (length places)) some
+    ∙ install_values desc journal key (length later) earlier legal
+    (omega (arith, ap (λ (places : List ℕ). length places) some))
+    ∙ ap (λ (place : ℕ). value desc (accepted (take place journal)) key)
+    (nth_place-last journal key first later some)
+
 -- after a legal journal the latest version of a view's partition holds its value over the
 -- deliveries that its last install counted
 content-view : (desc : DescOf) (journal : List Entry) (key : Key) → HasEarlierSources desc
@@ -42,22 +65,11 @@ content-view desc journal key earlier legal view =
     ap (content desc journal key) (version-view desc journal key view)
     ∙ at_places (install_places journal key) refl
   where
-    over : (place : ℕ) → List (List Cell)
-    over place = value desc (accepted (take place journal)) key
-
     at_places : (places : List ℕ) → install_places journal key ≡ places
         → content desc journal key (length (install_places journal key))
-        ≡ over (last_place journal key)
-    at_places [] none =
-        ap (λ (places : List ℕ). content desc journal key (length places)) none
-        ∙ content_within-start (suc key.table) desc journal key
-        ∙ sym (value-empty desc key)
-        ∙ ap over (sym (last_place-none journal key none))
-    at_places (place ∷ later) some =
-        ap (λ (places : List ℕ). content desc journal key (length places)) some
-        ∙ install_values desc journal key (length later) earlier legal
-        (omega (arith, ap (λ (places : List ℕ). length places) some))
-        ∙ ap over (nth_place-last journal key place later some)
+        ≡ value desc (accepted (take (last_place journal key) journal)) key
+    at_places [] none = content-no_install desc journal key none
+    at_places (first ∷ later) some = content-last desc journal key first later earlier legal some
 
 -- the latest version of a raw partition holds its value
 content-raw : (desc : DescOf) (journal : List Entry) (key : Key)

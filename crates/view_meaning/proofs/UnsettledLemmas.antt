@@ -72,6 +72,14 @@ brings-not_raw : (desc : DescOf) (deliveries : List DeliveryOf) (key : Key)
 brings-not_raw desc deliveries key view =
     brings-none desc deliveries key (λ row. lies_in-not_raw desc key row view)
 
+-- a count that may go up by one and then never falls stays just where it does neither
+nat_eq-step : (up : Bool) (old new last : ℕ) (rest : Bool) → new ≡ old + (if up then 1 else 0)
+    → new ≤ last → nat_eq new last ≡ not rest → nat_eq old last ≡ not (up || rest)
+nat_eq-step true old new last rest counted at_most same =
+    ne_eqb old last (λ equal. omega arith)
+nat_eq-step false old new last rest counted at_most same =
+    ap (λ (count : ℕ). nat_eq count last) (omega arith) ∙ same
+
 -- deliveries more leave the version of a raw partition just where none of them brings a row of it
 raw_version-append : (desc : DescOf) (accepted more : List DeliveryOf) (key : Key)
     → nat_eq (raw_version desc accepted key) (raw_version desc (accepted ++ more) key)
@@ -84,44 +92,51 @@ raw_version-append desc accepted (delivery ∷ later) key =
     ap (λ (all : List DeliveryOf).
     nat_eq (raw_version desc accepted key) (raw_version desc all key))
     (sym (append_assoc accepted (delivery ∷ []) later))
-    ∙ one (brings key desc delivery) (raw_version desc accepted key) (raw_version desc next key)
-    (raw_version desc (next ++ later) key) (list_any (brings key desc) later)
-    (raw_version-push desc accepted key delivery) (raw_version-le desc next later key)
-    (raw_version-append desc next later key)
-  where
-    one : (brought : Bool) (old new all : ℕ) (rest : Bool)
-        → new ≡ old + (if brought then 1 else 0) → new ≤ all → nat_eq new all ≡ not rest
-        → nat_eq old all ≡ not (brought || rest)
-    one true old new all rest counted at_most same = ne_eqb old all (λ equal. omega arith)
-    one false old new all rest counted at_most same =
-        ap (λ (count : ℕ). nat_eq count all) (omega arith) ∙ same
+    ∙ nat_eq-step (brings key desc delivery) (raw_version desc accepted key)
+    (raw_version desc next key) (raw_version desc (next ++ later) key)
+    (list_any (brings key desc) later) (raw_version-push desc accepted key delivery)
+    (raw_version-le desc next later key) (raw_version-append desc next later key)
 
--- loads leave a version just where they bring no row of the partition
-version-with_loads : (desc : DescOf) (journal : List Entry) (deliveries : List DeliveryOf) (key : Key)
+-- loads leave the version of a raw partition just where they bring no row of it
+version-with_loads-raw : (desc : DescOf) (journal : List Entry) (deliveries : List DeliveryOf)
+    (key : Key) → is_raw (slice_get desc.tables key.table) ≡ true
+    → nat_eq (version desc journal key) (version desc (with_loads journal deliveries) key)
+    ≡ not (list_any (brings key desc) deliveries)
+version-with_loads-raw desc journal deliveries key raw =
+    let after : version desc (with_loads journal deliveries) key
+    ≡ raw_version desc (accepted journal ++ deliveries) key =
+    version-raw desc (with_loads journal deliveries) key raw
+    ∙ ap (λ (all : List DeliveryOf). raw_version desc all key)
+    (accepted-append journal (map entry.Load deliveries)
+    ∙ ap (λ (more : List DeliveryOf). accepted journal ++ more)
+    (accepted-map-Load deliveries)) in
+    rw (version-raw desc journal key raw, after)
+    (raw_version-append desc (accepted journal) deliveries key)
+
+-- they leave that of a view's partition, and bring no row of it
+version-with_loads-view : (desc : DescOf) (journal : List Entry) (deliveries : List DeliveryOf)
+    (key : Key) → is_raw (slice_get desc.tables key.table) ≡ false
+    → nat_eq (version desc journal key) (version desc (with_loads journal deliveries) key)
+    ≡ not (list_any (brings key desc) deliveries)
+version-with_loads-view desc journal deliveries key view =
+    let loaded = with_loads journal deliveries in
+    eq-eqb (version desc journal key) (version desc loaded key)
+    (version-view desc journal key view
+    ∙ ap (λ (places : List ℕ). length places)
+    (sym (install_places-same journal (map entry.Load deliveries) key
+    (install_places-Load deliveries key)))
+    ∙ sym (version-view desc loaded key view))
+    ∙ ap not (sym (brings-not_raw desc deliveries key view))
+
+-- so they leave a version just where they bring no row of the partition
+version-with_loads : (desc : DescOf) (journal : List Entry) (deliveries : List DeliveryOf)
+    (key : Key)
     → nat_eq (version desc journal key) (version desc (with_loads journal deliveries) key)
     ≡ not (list_any (brings key desc) deliveries)
 version-with_loads desc journal deliveries key =
     elim (cases_Bool (is_raw (slice_get desc.tables key.table))) [
-      | inl raw ↦
-          let after : version desc (with_loads journal deliveries) key
-          ≡ raw_version desc (accepted journal ++ deliveries) key =
-          version-raw desc (with_loads journal deliveries) key raw
-          ∙ ap (λ (all : List DeliveryOf). raw_version desc all key)
-          (accepted-append journal (map entry.Load deliveries)
-          ∙ ap (λ (more : List DeliveryOf). accepted journal ++ more)
-          (accepted-map-Load deliveries)) in
-          rw (version-raw desc journal key raw, after)
-          (raw_version-append desc (accepted journal) deliveries key)
-      | inr view ↦
-          let installs : install_places (with_loads journal deliveries) key
-          ≡ install_places journal key =
-          install_places-same journal (map entry.Load deliveries) key
-          (install_places-Load deliveries key) in
-          eq-eqb (version desc journal key) (version desc (with_loads journal deliveries) key)
-          (version-view desc journal key view
-          ∙ ap (λ (places : List ℕ). length places) (sym installs)
-          ∙ sym (version-view desc (with_loads journal deliveries) key view))
-          ∙ ap not (sym (brings-not_raw desc deliveries key view))
+      | inl raw ↦ version-with_loads-raw desc journal deliveries key raw
+      | inr view ↦ version-with_loads-view desc journal deliveries key view
     ]
 
 -- behind loads a partition that was settled is not stale just where they bring no row of a source
@@ -144,7 +159,44 @@ is_stale-with_loads desc journal deliveries key earlier legal settled =
     (λ source. not (list_any (brings source desc) deliveries)) sources
     (λ index default _. version-with_loads desc journal deliveries (get_or sources index default))
 
--- it is settled just where they reach none of its sources
+-- a source is settled and gets no row just where they do not reach it, if it is settled just where
+-- they reach none of its own
+is_reached-source : (desc : DescOf) (journal : List Entry) (deliveries : List DeliveryOf)
+    (source : Key) → HasEarlierSources desc
+    → is_settled desc (with_loads journal deliveries) source
+    ≡ not (list_any (is_reached desc deliveries) (sources_of desc source))
+    → (not (list_any (brings source desc) deliveries)
+    && is_settled desc (with_loads journal deliveries) source)
+    ≡ not (is_reached desc deliveries source)
+is_reached-source desc journal deliveries source earlier settled =
+    let brought = list_any (brings source desc) deliveries in
+    ap (λ (rest : Bool). not brought && rest) settled
+    ∙ not-or brought (list_any (is_reached desc deliveries) (sources_of desc source))
+    ∙ ap not (sym (is_reached-step desc deliveries source earlier))
+
+-- a partition is settled just where they reach none of its sources, if each of these is settled and
+-- gets no row just where they do not reach it
+is_settled-reached : (desc : DescOf) (journal : List Entry) (deliveries : List DeliveryOf)
+    (key : Key) → HasEarlierSources desc → IsLegal desc journal
+    → is_settled desc journal key ≡ true
+    → All (λ source. (not (list_any (brings source desc) deliveries)
+    && is_settled desc (with_loads journal deliveries) source)
+    ≡ not (is_reached desc deliveries source)) (sources_of desc key)
+    → is_settled desc (with_loads journal deliveries) key
+    ≡ not (list_any (is_reached desc deliveries) (sources_of desc key))
+is_settled-reached desc journal deliveries key earlier legal settled each =
+    let sources = sources_of desc key in
+    let loaded = with_loads journal deliveries in
+    let brought = λ (source : Key). list_any (brings source desc) deliveries in
+    is_settled-step desc loaded key earlier
+    ∙ ap (λ (fresh : Bool). fresh && list_all (is_settled desc loaded) sources)
+    (is_stale-with_loads desc journal deliveries key earlier legal settled)
+    ∙ list_all-and (λ source. not (brought source)) (is_settled desc loaded) sources
+    ∙ list_all-agree (λ source. not (brought source) && is_settled desc loaded source)
+    (λ source. not (is_reached desc deliveries source)) sources each
+    ∙ list_all-not (is_reached desc deliveries) sources
+
+-- behind loads a partition is settled just where they reach none of its sources
 is_settled-with_loads : (depth : ℕ) (desc : DescOf) (journal : List Entry)
     (deliveries : List DeliveryOf) (key : Key) → HasEarlierSources desc → IsLegal desc journal
     → ((key : Key) → is_part desc key ≡ true → is_settled desc journal key ≡ true)
@@ -154,27 +206,14 @@ is_settled-with_loads : (depth : ℕ) (desc : DescOf) (journal : List Entry)
 is_settled-with_loads zero desc journal deliveries key earlier legal settled enough part =
     absurd (omega (arith, enough))
 is_settled-with_loads (suc depth) desc journal deliveries key earlier legal settled enough part =
-    let sources = sources_of desc key in
-    let loaded = with_loads journal deliveries in
-    let brought = λ (source : Key). list_any (brings source desc) deliveries in
-    let each : All (λ source. (not (brought source) && is_settled desc loaded source)
-    ≡ not (is_reached desc deliveries source)) sources =
-    λ index default within.
-    let source = get_or sources index default in
+    is_settled-reached desc journal deliveries key earlier legal (settled key part)
+    (λ index default within.
+    let source = get_or (sources_of desc key) index default in
     let before : source.table < key.table =
     sources_of-earlier desc key earlier index default within in
-    ap (λ (rest : Bool). not (brought source) && rest)
+    is_reached-source desc journal deliveries source earlier
     (is_settled-with_loads depth desc journal deliveries source earlier legal settled
-    (omega (arith, enough)) (sources_of-parts desc key index default within))
-    ∙ not-or (brought source) (list_any (is_reached desc deliveries) (sources_of desc source))
-    ∙ ap not (sym (is_reached-step desc deliveries source earlier)) in
-    is_settled-step desc loaded key earlier
-    ∙ ap (λ (fresh : Bool). fresh && list_all (is_settled desc loaded) sources)
-    (is_stale-with_loads desc journal deliveries key earlier legal (settled key part))
-    ∙ list_all-and (λ source. not (brought source)) (is_settled desc loaded) sources
-    ∙ list_all-agree (λ source. not (brought source) && is_settled desc loaded source)
-    (λ source. not (is_reached desc deliveries source)) sources each
-    ∙ list_all-not (is_reached desc deliveries) sources
+    (omega (arith, enough)) (sources_of-parts desc key index default within)))
 
 -- the unsettled partitions are those that the deliveries reach
 pub unsettled-with_loads : (desc : DescOf) (journal : List Entry) (deliveries : List DeliveryOf)

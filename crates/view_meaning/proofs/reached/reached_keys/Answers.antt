@@ -3,8 +3,8 @@ use Rattle.std.proofs.lemmas.List.{length-append}
 use Rattle.std.proofs.lemmas.Iterator.Adapters.{YieldsList-from_vec}
 use Rattle.std.proofs.lemmas.Iterator.Consumers.{YieldsList-turn, YieldsList-end}
 use Rattle.view_meaning.specs.PartLists.{lists_of}
-use Rattle.view_meaning.proofs.PartListLemmas.{AreBrought-at, length-lists_of}
-use Rattle.view_meaning.proofs.ReachedListLemmas.{AreInTime-AllReached, AreUpTo-push, has-reached, reached_of-all}
+use Rattle.view_meaning.proofs.PartListLemmas.{length-lists_of}
+use Rattle.view_meaning.proofs.ReachedListLemmas.{AreInTime-AllReached, AreUpTo-turn, reached_of-all}
 use Rattle.view_meaning.proofs.reached.reached_keys.Goals as goal
 
 pub push_above-requires-clause-in_time : goal.push_above-requires-clause-in_time
@@ -26,26 +26,13 @@ push_above-requires-clause-aligned c =
 
 pub loop-parts-preserved : goal.loop-parts-preserved
 loop-parts-preserved c =
-    let desc = c.args.desc.now in
-    let deliveries = c.args.deliveries.now in
-    let lists = lists_of c.loop-parts.reached.items in
-    let number = c.len-number.result in
-    let table = c.table_at-table.result.now in
     let brought = c.in_ok-parts-items.parts-items in
     let begun = c.into_iter-parts-iterator.ensures.into_iter_gives in
-    let yielded : number ≡ length c.loop-parts.yielded = omega arith in
-    let next : number ≡ length lists =
-    omega (arith, length-lists_of c.loop-parts.reached.items, c.loop-parts.reached.ok.0) in
-    let all = YieldsList-from_vec brought.items begun.0 (begun.1 ∙ brought.ok.0) in
-    let turn = rw (← yielded) at (YieldsList-turn all c.loop-parts.yielded
+    let turn = YieldsList-turn
+    (YieldsList-from_vec brought.items begun.0 (begun.1 ∙ brought.ok.0)) c.loop-parts.yielded
     c.loop-parts.parts-iterator c.loop-parts.yielded_by c.next.result c.next.new.self
-    c.in-Some.parts c.in-Some.is c.next.ensures.steps) in
-    let own = AreBrought-at desc deliveries brought.items number c.in-Some.parts turn.0 turn.1
-    c.in_ok-parts-items.ensures.exact in
-    let gained = has-reached desc deliveries lists number table
-    c.in-Some.parts.items c.push_above.new.parts.items c.requires.earlier
-    c.table_at-table.ensures next c.loop-parts.invariant.up_to.listed own
-    (rw c.deref.ensures.value at c.in_ok-push_above.ensures.ok) in
+    c.in-Some.parts c.in-Some.is c.next.ensures.steps in
+    let yielded : c.len-number.result ≡ length c.loop-parts.yielded = omega arith in
     record {
       each = omega (
         arith,
@@ -57,10 +44,21 @@ loop-parts-preserved c =
         c.in_ok-push_view_keys.ensures.ok,
         c.deref-in-loop-parts.ensures.value,
       )
-          (AreUpTo-push desc deliveries lists c.loop-parts.keys.items number table
-          c.sort_parts.new.parts.items c.requires.earlier c.requires.aligned
-          c.table_at-table.ensures next c.sort_parts.ensures.rising
-          (λ part. c.sort_parts.ensures.same part ∙ gained part) c.loop-parts.invariant.up_to);
+          (AreUpTo-turn c.args.desc.now c.args.deliveries.now c.loop-parts.reached.items
+          c.loop-parts.keys.items c.len-number.result c.table_at-table.result.now brought.items
+          c.in-Some.parts c.push_above.new.parts.items c.sort_parts.new.parts.items
+          c.requires.earlier c.requires.aligned
+          record {
+            there = c.table_at-table.ensures;
+            last = omega (arith, c.loop-parts.reached.ok.0);
+            within = (rw (← yielded) at turn).0;
+            read = (rw (← yielded) at turn).1;
+            brought = c.in_ok-parts-items.ensures.exact;
+            gains = rw c.deref.ensures.value at c.in_ok-push_above.ensures.ok;
+            rising = c.sort_parts.ensures.rising;
+            same = c.sort_parts.ensures.same;
+          }
+          c.loop-parts.invariant.up_to);
     }
 
 pub returns : goal.returns
