@@ -26,10 +26,10 @@ use Rattle.view_meaning.specs.Staleness.{is_settled_within}
 use Rattle.view_meaning.specs.Drains.{drained, unsettled, with_install}
 use Rattle.view_meaning.specs.Reached.{reached}
 use Rattle.view_meaning.specs.LegalJournals.{IsLegal}
-use Rattle.view_meaning.proofs.AmongLemmas.{is_key-itself, same-is_key}
+use Rattle.view_meaning.proofs.AmongLemmas.{is_key-itself, is_key-same}
 use Rattle.view_meaning.proofs.DrainLemmas.{IsLegal-drained, is_settled-drained}
 use Rattle.view_meaning.proofs.UnsettledLemmas.{unsettled-with_loads}
-use Rattle.view_meaning.proofs.VersionLemmas.{install_places-append, install_places-stay, last_place-Install, last_place-stay}
+use Rattle.view_meaning.proofs.VersionLemmas.{install_places-append, install_places-same, last_place-Install, last_place-same}
 use Rattle.view_meaning.proofs.LegalLemmas.{IsLegal-push, last_place-le}
 use Rattle.view_meaning.proofs.SettledLemmas.{is_stale-current}
 use Rattle.depot_cli.specs.declared.book.version.Version.{Version}
@@ -72,10 +72,10 @@ pub latest-stay : (desc : DescOf) (journal more : List Entry) (key : Key)
 latest-stay desc journal more key within none =
     ap (λ (places : List ℕ). version_made desc key (length places)
     (last_place (journal ++ more) key) (take (last_place (journal ++ more) key) (journal ++ more)))
-    (install_places-stay journal more key none)
+    (install_places-same journal more key none)
     ∙ ap (λ (place : ℕ). version_made desc key (length (install_places journal key))
     place (take place (journal ++ more)))
-    (last_place-stay journal more key none)
+    (last_place-same journal more key none)
     ∙ ap (λ (before : List Entry). version_made desc key (length (install_places journal key))
     (last_place journal key) before)
     (take-append-le (last_place journal key) journal more within)
@@ -243,7 +243,7 @@ HasInstalled-install desc old new key rows before is_value entries found = recor
     )
     place other (inr apart) = omega (
       arith,
-      last_place-stay old.entries (next ∷ []) other (rw apart refl),
+      last_place-same old.entries (next ∷ []) other (rw apart refl),
       before.within other,
       length-append old.entries (next ∷ []),
     )
@@ -255,7 +255,7 @@ HasInstalled-install desc old new key rows before is_value entries found = recor
     version other (inl same) =
         rw same (subst (λ (other : Key). Some (installed_version old key rows)
         ≡ latest desc (with_install old.entries key) other)
-        (same-is_key other key same) (latest-made desc old key rows before is_value))
+        (is_key-same other key same) (latest-made desc old key rows before is_value))
     version other (inr apart) =
         rw apart (before.latest other
         ∙ sym (latest-stay desc old.entries (next ∷ []) other (before.within other)

@@ -19,10 +19,10 @@ use Rattle.view_meaning.specs.Shown.{ShownPart, shown, shown_part}
 use Rattle.view_meaning.specs.Values.{value}
 use Rattle.view_meaning.specs.Versions.{install_places, is_raw}
 use Rattle.view_meaning.specs.declared.request.Mark.TheVariants as mark
-use Rattle.view_meaning.proofs.ContentLemmas.{value-nothing}
+use Rattle.view_meaning.proofs.ContentLemmas.{value-empty}
 use Rattle.depot_cli.specs.declared.book.version.Version.{Version}
 use Rattle.depot_cli.specs.KeptJournals.{latest, version_made}
-use Rattle.view_meaning.proofs.FilterLemmas.{filter-none}
+use Rattle.view_meaning.proofs.ListLemmas.{filter-none}
 use Rattle.view_meaning.proofs.SetAsideLemmas.{kept_rows-all, aside_rows-none}
 use Rattle.depot_cli.specs.Replies.{load_reply}
 use Rattle.depot_cli.specs.Texts.{answer_line, answer_text, feed_name, loaded_text, shown_text, name_of, table_name}
@@ -73,7 +73,7 @@ shown_version-made desc journal key [] =
       item = record { key = key; version = 0; upto = 0; mark = mark.Open };
       rows = rows;
     })
-    (sym (value-nothing desc key))
+    (sym (value-empty desc key))
 shown_version-made desc journal key (place ∷ places) = refl
 
 -- a view's partition is shown by its latest version

@@ -28,7 +28,7 @@ use crate::script::work::Work;
 use depot_cell::{Memory, Rows};
 use std::alloc::Global;
 use table_desc::{Delivery, Desc, Key, Kind, Table};
-use view_meaning::{Item, Loaded, Mark, Parts, PinItem, plain_parts, plain_value, plain_version};
+use view_meaning::{Item, Loaded, Mark, Parts, PinItem, parts_of_span, plain_value, plain_version};
 
 /// Does what an item asks for, and makes the text of the reply. `line` is the item's line, from 1.
 /// Where there is no memory, a drain may have done a part of its work.
@@ -121,7 +121,7 @@ fn query_text(alloc: Global, desc: &Desc, journal: &Journal, item: Item) -> Resu
         Some(table) => table,
         None => return answer_line(alloc, journal.len(), 0),
     };
-    let parts = plain_parts(table.width, item.from, item.to);
+    let parts = parts_of_span(table.width, item.from, item.to);
     let mut text = answer_line(alloc, journal.len(), parts.count)?;
     put_parts(alloc, desc, journal, table, item.table, parts, &mut text)?;
     Ok(text)

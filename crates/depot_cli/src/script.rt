@@ -5,6 +5,7 @@ pub mod work;
 
 ghost use Rattle.std.specs.Prelude.{◌≡◌, ◌+◌, ◌≤◌, ◌<◌, length, IfSome, IfOk, IfErr, OnOk, OnSome, Ok, true};
 ghost use Rattle.depot_io.specs.Lines.{LIMIT, line_take};
+ghost use Rattle.depot_io.specs.Reading.{ReadsOn};
 ghost use Rattle.table_desc.specs.Words.{words};
 ghost use Rattle.table_desc.specs.Served.{IsServed};
 ghost use Rattle.table_desc.specs.Grammar.{is_go};
@@ -53,10 +54,9 @@ pub fn take_line<S: Source>(base: u64, reader: &mut LineReader<S>) -> Result<boo
     ensures taken { IfSome (S.bytes_left reader.old.source) (λ bytes.
         IfOk result (λ _. reader.new.taken ≡ reader.old.taken + line_take bytes)) }
     ensures more { IfOk result (λ there. there ≡ true → reader.old.taken < reader.new.taken) }
-    ensures limit { reader.new.taken ≤ LIMIT }
     ensures others { IfErr result (λ fault. EndsSession (status_of_fault fault)) }
     ensures cause { IsScriptCause (S.faults reader.old.source) (S.faults reader.new.source) result }
-    ensures place { S.place reader.new.source ≡ S.place reader.old.source }
+    ensures kept { ReadsOn S.bytes_left S.loan reader.old reader.new }
 {
     let place = base + reader.taken();
     match reader.next_line() {
@@ -89,10 +89,9 @@ fn take_body<S: Source>(
         body.new.items (S.bytes_left reader.new.source) result) }
     ensures taken { OnOk result (reader.new.taken ≡ reader.old.taken + size) }
     ensures len { OnOk result (length body.new.items ≡ size) }
-    ensures limit { reader.new.taken ≤ LIMIT }
     ensures others { IfErr result (λ fault. EndsSession (status_of_fault fault)) }
     ensures cause { IsScriptCause (S.faults reader.old.source) (S.faults reader.new.source) result }
-    ensures place { S.place reader.new.source ≡ S.place reader.old.source }
+    ensures kept { ReadsOn S.bytes_left S.loan reader.old reader.new }
 {
     let place = base + reader.taken();
     match reader.take_exact(size, body) {
@@ -147,10 +146,9 @@ pub fn next_work<S: Source>(
         (S.bytes_left reader.new.source) result) }
     ensures in_range { IfOk result (λ work. IfSome work IsAnswerable) }
     ensures more { IfOk result (λ work. OnSome work (reader.old.taken < reader.new.taken)) }
-    ensures limit { reader.new.taken ≤ LIMIT }
     ensures others { IfErr result (λ fault. EndsSession (status_of_fault fault)) }
     ensures cause { IsScriptCause (S.faults reader.old.source) (S.faults reader.new.source) result }
-    ensures place { S.place reader.new.source ≡ S.place reader.old.source }
+    ensures kept { ReadsOn S.bytes_left S.loan reader.old reader.new }
 {
     if !take_line(base, reader)? {
         return Ok(None);
@@ -189,9 +187,8 @@ pub fn read_opening<S: Source>(
     requires start { reader.old.taken ≡ 0 }
     ensures answer { IfSome (S.bytes_left reader.old.source) (λ bytes.
         IsOpening (opening bytes) reader.new.taken (S.bytes_left reader.new.source) result) }
-    ensures limit { reader.new.taken ≤ LIMIT }
     ensures cause { IsScriptCause (S.faults reader.old.source) (S.faults reader.new.source) result }
-    ensures place { S.place reader.new.source ≡ S.place reader.old.source }
+    ensures kept { ReadsOn S.bytes_left S.loan reader.old reader.new }
 {
     let mut draft = Draft::new(alloc);
     'lines: loop {

@@ -9,7 +9,7 @@ use crate::book::journal::Journal;
 use depot_cell::Memory;
 use std::alloc::Global;
 use table_desc::Desc;
-use view_meaning::{plain_reached, plain_value};
+use view_meaning::{plain_value, reached_keys};
 
 /// Installs each partition of a view that is not settled, in order of key. These are the ones that
 /// the deliveries since the last drain reach. Where there is no memory, some may be installed.
@@ -19,7 +19,7 @@ pub fn drain(alloc: Global, desc: &Desc, journal: &mut Journal) -> Result<(), Me
     ensures ok { OnOk result (journal.new.entries ≡ drained desc.now journal.old.entries) }
     ensures kept { OnOk result (IsKept desc.now journal.new) }
 {
-    let keys = plain_reached(alloc, desc, journal.fresh())?;
+    let keys = reached_keys(alloc, desc, journal.fresh())?;
     'keys: for key in &keys {
         let rows = plain_value(alloc, desc, journal.accepted(), *key)?;
         journal.install(*key, rows)?;

@@ -40,7 +40,7 @@ pub fn serve<S: Source, O: Sink>(
     ensures causes { HasRunCauses (S.faults reader.old.source) (S.faults reader.new.source)
         (O.faults sink.old) (O.faults sink.new) result }
     ensures others { EndsSession result }
-    ensures place { S.place reader.new.source ≡ S.place reader.old.source }
+    ensures loan { S.loan reader.new.source ≡ S.loan reader.old.source }
 {
     let mut journal = Journal::new(alloc);
     let status = serve_items(alloc, desc, base, &mut journal, reader, sink);
@@ -69,7 +69,7 @@ fn serve_items<S: Source, O: Sink>(
     ensures causes { HasRunCauses (S.faults reader.old.source) (S.faults reader.new.source)
         (O.faults sink.old) (O.faults sink.new) result }
     ensures others { EndsSession result }
-    ensures place { S.place reader.new.source ≡ S.place reader.old.source }
+    ensures loan { S.loan reader.new.source ≡ S.loan reader.old.source }
 {
     let mut body = Vec::new(alloc);
     let mut refused = false;

@@ -12,7 +12,7 @@ ghost use Rattle.depot_cli.specs.Orders.{deliver_order, asked, head_of, item_of,
 use depot_cell::{Memory, read_number};
 use std::alloc::Global;
 use table_desc::{Desc, END, Width, begins_comment, find_feed, find_table, is_word, words_of};
-use view_meaning::{Item, Mark, plain_parts};
+use view_meaning::{Item, Mark, parts_of_span};
 
 /// The most bytes of a body.
 const BODY_LIMIT: u64 = 16_777_216;
@@ -175,7 +175,7 @@ fn count_of(desc: &Desc, table: u16, from: u64, to: u64) -> u64
     ensures exact { result ≡
         length (parts_met (width_of (slice_get desc.now.tables table)) from to) }
 {
-    plain_parts(width_of(desc, table), from, to).count
+    parts_of_span(width_of(desc, table), from, to).count
 }
 
 fn width_of(desc: &Desc, table: u16) -> Width

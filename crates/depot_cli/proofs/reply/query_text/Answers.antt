@@ -23,20 +23,20 @@ pub returns : goal.returns
 returns c =
     let there = sym c.in-Some.ensures in
     let run : parts_met c.in-Some.table.now.width c.args.item.from c.args.item.to
-    ≡ range_with_len c.plain_parts-parts.result.first c.plain_parts-parts.result.count =
+    ≡ range_with_len c.parts_of_span-parts.result.first c.parts_of_span-parts.result.count =
     ap (λ (table : TableOf). parts_met table.width c.args.item.from c.args.item.to)
     (sym c.table.view_is)
-    ∙ c.plain_parts-parts.ensures.exact in
+    ∙ c.parts_of_span-parts.ensures.exact in
     let part_of : ℕ → ShownPart = λ part. shown_part c.args.desc.now c.args.journal.now.entries
     (record { table = c.args.item.table; part = part }) in
-    let parts : List ℕ = range_with_len c.plain_parts-parts.result.first
-    c.plain_parts-parts.result.count in
+    let parts : List ℕ = range_with_len c.parts_of_span-parts.result.first
+    c.parts_of_span-parts.result.count in
     record {
       exact = c.in_ok-put_parts.ensures.ok
           ∙ ap (λ (head : List ℕ). head ++ flat_map (shown_text c.in-Some.table.now.name)
           (map part_of parts))
           (c.in_ok-text.ensures.exact
-          ∙ ap (λ (place : ℕ). answer_line place c.plain_parts-parts.result.count)
+          ∙ ap (λ (place : ℕ). answer_line place c.parts_of_span-parts.result.count)
           c.len-2.ensures.exact)
           ∙ sym (answer_text-run c.args.desc.now c.args.journal.now.entries c.args.item
           c.in-Some.table.now (length c.args.journal.now.entries) _ _ there run);

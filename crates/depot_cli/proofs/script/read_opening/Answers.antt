@@ -4,6 +4,7 @@ use Rattle.std.proofs.lemmas.Option.{IfSome_then}
 use Rattle.table_desc.specs.Words.{words}
 use Rattle.table_desc.specs.Grammar.{Described, is_go, with_line}
 use Rattle.depot_cli.specs.Reading.{opening}
+use Rattle.depot_io.proofs.ReadingLemmas.{ReadsOn-same, ReadsOn-step}
 use Rattle.depot_cli.proofs.KnownLemmas.{Err-passed}
 use Rattle.depot_cli.proofs.OpeningLemmas.{HasOpened-fault, HasOpened-go, HasOpened-init, HasOpened-line, lines-with_line}
 use Rattle.depot_cli.proofs.script.read_opening.Goals as goal
@@ -12,9 +13,8 @@ pub lines-init : goal.lines-init
 lines-init g c = record {
   opened = rw c.requires.start (HasOpened-init _ _ c.new-draft.ensures.exact);
   few = rw c.new-draft.ensures.exact (omega arith);
-  within = omega arith;
   faults = refl;
-  place = refl;
+  kept = ReadsOn-same g.S.Source.bytes_left g.S.Source.loan c.args.reader.now (omega (arith, c.requires.start));
 }
 
 pub lines-preserved : goal.lines-preserved
@@ -34,9 +34,9 @@ lines-preserved g c =
           HasOpened-line (opening bytes) _ _ _ 0 _ _ _ _ opened there
           c.in_ok-take_line.ensures.answer c.in_ok-take_line.ensures.taken goes));
       few = omega (arith, c.in_ok-take_line.ensures.more there);
-      within = omega (arith, c.in_ok-take_line.ensures.limit);
       faults = c.in_ok-take_line.ensures.cause ∙ c.lines.invariant.faults;
-      place = c.in_ok-take_line.ensures.place ∙ c.lines.invariant.place;
+      kept = ReadsOn-step g.S.Source.bytes_left g.S.Source.loan _ _ _ c.lines.invariant.kept
+          c.in_ok-take_line.ensures.kept;
     }
 
 pub returns-in_err-take_line-clause-answer : goal.returns-in_err-take_line-clause-answer
@@ -60,3 +60,28 @@ returns-then-branch-clause-answer g c =
     (g.S.Source.bytes_left c.lines.reader.source)
     (g.S.Source.bytes_left c.take_line.new.reader.source) opened c.if-not-branch.false
     c.in_ok-take_line.ensures.answer c.in_ok-take_line.ensures.taken goes)
+
+pub returns-in_err-take_line-clause-kept : goal.returns-in_err-take_line-clause-kept
+returns-in_err-take_line-clause-kept g c =
+    ReadsOn-step g.S.Source.bytes_left g.S.Source.loan _ _ _ c.lines.invariant.kept
+    c.in_err-take_line.ensures.kept
+
+pub returns-then-not-branch-clause-kept : goal.returns-then-not-branch-clause-kept
+returns-then-not-branch-clause-kept g c =
+    ReadsOn-step g.S.Source.bytes_left g.S.Source.loan _ _ _ c.lines.invariant.kept
+    c.in_ok-take_line.ensures.kept
+
+pub returns-in_err-is_go_line-clause-kept : goal.returns-in_err-is_go_line-clause-kept
+returns-in_err-is_go_line-clause-kept g c =
+    ReadsOn-step g.S.Source.bytes_left g.S.Source.loan _ _ _ c.lines.invariant.kept
+    c.in_ok-take_line.ensures.kept
+
+pub returns-then-branch-clause-kept : goal.returns-then-branch-clause-kept
+returns-then-branch-clause-kept g c =
+    ReadsOn-step g.S.Source.bytes_left g.S.Source.loan _ _ _ c.lines.invariant.kept
+    c.in_ok-take_line.ensures.kept
+
+pub returns-in_err-add_line-clause-kept : goal.returns-in_err-add_line-clause-kept
+returns-in_err-add_line-clause-kept g c =
+    ReadsOn-step g.S.Source.bytes_left g.S.Source.loan _ _ _ c.lines.invariant.kept
+    c.in_ok-take_line.ensures.kept

@@ -1,6 +1,7 @@
 -- The lines so far are described; nothing else of the source changed than what was taken.
 use Rattle.std.proofs.Common.{◌≡◌, ◌-◌, ◌≤◌, IfSome}
 use Rattle.depot_io.specs.Lines.{LIMIT}
+use Rattle.depot_io.specs.Reading.{ReadsOn}
 use Rattle.depot_cli.specs.Reading.{opening}
 use Rattle.depot_cli.proofs.OpeningLemmas.{HasOpened}
 use Rattle.depot_cli.proofs.script.read_opening.Given as goal
@@ -10,9 +11,8 @@ invariant-lines g l = record {
   opened : IfSome (g.S.Source.bytes_left l.fn.reader.source) (λ bytes.
       HasOpened (opening bytes) l.draft l.reader.taken (g.S.Source.bytes_left l.reader.source));
   few : l.draft.lines ≤ l.reader.taken;
-  within : l.reader.taken ≤ LIMIT;
   faults : g.S.Source.faults l.reader.source ≡ g.S.Source.faults l.fn.reader.source;
-  place : g.S.Source.place l.reader.source ≡ g.S.Source.place l.fn.reader.source;
+  kept : ReadsOn g.S.Source.bytes_left g.S.Source.loan l.fn.reader l.reader;
 }
 
 abbrev pub decreases-lines : goal.decreases-lines

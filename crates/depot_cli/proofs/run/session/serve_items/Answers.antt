@@ -14,7 +14,7 @@ items-init g c = record {
   within = omega arith;
   read = refl;
   written = refl;
-  place = refl;
+  loan = refl;
 }
 
 pub items-preserved : goal.items-preserved
@@ -28,10 +28,10 @@ items-preserved g c =
           _ _ _ _ _ _ _ _ _ _ _ _ served answer c.in-Ok.ensures.replied c.in-Ok.ensures.ok));
       kept = c.in-Ok.ensures.kept;
       lines = omega (arith, more);
-      within = omega (arith, c.in-Ok-Some.ensures.limit);
+      within = omega (arith, c.in-Ok-Some.ensures.kept.within);
       read = c.in-Ok-Some.ensures.cause ∙ c.items.invariant.read;
       written = c.in-Ok.ensures.cause ∙ c.items.invariant.written;
-      place = c.in-Ok-Some.ensures.place ∙ c.items.invariant.place;
+      loan = c.in-Ok-Some.ensures.kept.same_loan ∙ c.items.invariant.loan;
     }
 
 pub returns-in-Err-clause-run : goal.returns-in-Err-clause-run

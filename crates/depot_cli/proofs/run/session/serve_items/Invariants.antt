@@ -18,7 +18,7 @@ invariant-items g l = record {
   within : l.reader.taken ≤ LIMIT;
   read : g.S.Source.faults l.reader.source ≡ g.S.Source.faults l.fn.reader.source;
   written : g.O.Sink.faults l.sink ≡ g.O.Sink.faults l.fn.sink;
-  place : g.S.Source.place l.reader.source ≡ g.S.Source.place l.fn.reader.source;
+  loan : g.S.Source.loan l.reader.source ≡ g.S.Source.loan l.fn.reader.source;
 }
 
 abbrev pub decreases-items : goal.decreases-items

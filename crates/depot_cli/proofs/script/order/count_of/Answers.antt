@@ -5,5 +5,5 @@ use Rattle.depot_cli.proofs.script.order.count_of.Goals as goal
 pub returns : goal.returns
 returns c = record {
   exact = sym (rw (← c.width_of.ensures.exact)
-      (ap length c.plain_parts.ensures.exact ∙ length-range_with_len _ _));
+      (ap length c.parts_of_span.ensures.exact ∙ length-range_with_len _ _));
 }
