@@ -7,14 +7,15 @@ use Rattle.std.specs.Io.KnownBytes.{Appends}
 use Rattle.std.proofs.KnownBytes.{Appends-nil, Appends-trans}
 use Rattle.table_desc.specs.Descriptions.{DescOf}
 use Rattle.view_meaning.specs.declared.journal.Entry.{Entry}
-use Rattle.depot_io.specs.Puts.{GainsPrefix}
+use Rattle.depot_io.specs.Puts.{GainsPrefix, HasRoomFor, room_after}
+use Rattle.depot_cli.proofs.RoomLemmas.{HasRoomFor-next, IsReplyRoom-Err, length-replies_front}
 use Rattle.depot_cli.specs.declared.script.ScriptFault.{ScriptFault}
 use Rattle.depot_cli.specs.declared.script.ScriptFault.TheVariants.{Input, ReadFault, Memory}
 use Rattle.depot_cli.specs.declared.run.status.Status.{Status}
 use Rattle.depot_cli.specs.declared.run.status.Status.TheVariants as status
 use Rattle.depot_cli.specs.declared.script.work.Work.{Work}
 use Rattle.depot_cli.specs.Reading.{Served, Session, Step, Does, session, session_at, session_from, step_of}
-use Rattle.depot_cli.specs.ScriptCalls.{IsLeftOf, IsReplied, IsStep, status_of_fault}
+use Rattle.depot_cli.specs.ScriptCalls.{IsLeftOf, IsReplied, IsReplyRoom, IsStep, status_of_fault}
 use Rattle.depot_cli.specs.SerialJournal.{serial}
 use Rattle.depot_cli.specs.Replies.{replies, reply}
 use Rattle.depot_cli.specs.Runs.{GainsFront, GainsTaken, IsRun, first_replies, reply_at}
@@ -137,25 +138,26 @@ replies-all desc items got_before got_now replied =
 -- the run of a session whose next step was not read
 IsRun-fault : (desc : DescOf) (base turns taken taken_now : ℕ) (bytes : List ℕ) (step : Step)
     (items : List Work) (dues : List ℕ) (got_before got_now left : Option (List ℕ))
-    (fault : ScriptFault)
+    (room : Option ℕ) (fault : ScriptFault)
     → step_of desc base taken bytes ≡ step
     → length dues ≡ length items
     → Appends got_before got_now (replies desc 1 [] items)
     → IsStep step taken_now left (Err fault)
     → IsRun (Served desc (after_items items dues (session_at (session_from desc base turns) step)))
-    got_before got_now left (status_of_fault fault)
-IsRun-fault desc base turns taken taken_now bytes step items dues got_before got_now left
+    got_before got_now left room (status_of_fault fault)
+IsRun-fault desc base turns taken taken_now bytes step items dues got_before got_now left room
     (Input why place) is_step paired replied stops =
     subst (λ (step : Step). IsRun (Served desc (after_items items dues
     (session_at (session_from desc base turns) step)))
-    got_before got_now left (status.Input why place))
+    got_before got_now left room (status.Input why place))
     (sym stops.1)
     (record {
       told = refl;
       gains = replies-all desc items got_before got_now replied;
       left = λ whole. stops.2;
+      fits = λ room blamed. cc;
     })
-IsRun-fault desc base turns taken taken_now bytes step items dues got_before got_now left
+IsRun-fault desc base turns taken taken_now bytes step items dues got_before got_now left room
     ReadFault is_step paired replied undone =
     let more = session_at (session_from desc base turns) step in
     record {
@@ -164,8 +166,9 @@ IsRun-fault desc base turns taken taken_now bytes step items dues got_before got
           got_before got_now left refl refl paired replied
           (All-undone desc base turns taken bytes step left is_step undone);
       left = λ whole. cc;
+      fits = λ room blamed. cc;
     }
-IsRun-fault desc base turns taken taken_now bytes step items dues got_before got_now left
+IsRun-fault desc base turns taken taken_now bytes step items dues got_before got_now left room
     Memory is_step paired replied stops =
     let more = session_at (session_from desc base turns) step in
     record {
@@ -173,87 +176,121 @@ IsRun-fault desc base turns taken taken_now bytes step items dues got_before got
       gains = GainsFront-served desc (after_items items dues more) items more.items got_before
           got_now refl replied;
       left = λ whole. cc;
+      fits = λ room blamed. cc;
     }
 
 -- the run of a session whose next item was not replied to
 IsRun-unreplied : (desc : DescOf) (more : List Work) (session : Session) (items : List Work)
-    (work : Work) (got_before got_now got_next left : Option (List ℕ)) (ended : Status)
+    (work : Work) (got_before got_now got_next left : Option (List ℕ)) (room : Option ℕ)
+    (ended : Status)
     → session.items ≡ items ++ work ∷ more
     → Appends got_before got_now (replies desc 1 [] items)
     → IsReplied {T = Unit {0}} got_now got_next
     (reply desc (1 + length items) (serial desc [] items) work) (Err ended)
-    → IsRun (Served desc session) got_before got_next left ended
-IsRun-unreplied desc more session items work got_before got_now got_next left status.WriteFault
-    splits replied cut = record {
+    → (HasRoomFor room (length (replies desc 1 [] session.items)) → ended ≡ status.WriteFault → ⊥)
+    → IsRun (Served desc session) got_before got_next left room ended
+IsRun-unreplied desc more session items work got_before got_now got_next left room
+    status.WriteFault splits replied cut fits = record {
       told = tt;
       gains = GainsFront-cut desc session items more work got_before got_now got_next splits replied
           cut;
       left = λ whole. cc;
+      fits = fits;
     }
-IsRun-unreplied desc more session items work got_before got_now got_next left status.Memory splits
-    replied kept = record {
+IsRun-unreplied desc more session items work got_before got_now got_next left room status.Memory
+    splits replied kept fits = record {
       told = tt;
       gains = GainsFront-served desc session items (work ∷ more) got_before got_next splits
           (Appends-reply got_before got_now got_next (replies desc 1 [] items) []
           (replies desc 1 [] items) replied kept (append-nil (replies desc 1 [] items)));
       left = λ whole. cc;
+      fits = fits;
     }
-IsRun-unreplied desc more session items work got_before got_now got_next left status.Done splits
-    replied never = absurd never
-IsRun-unreplied desc more session items work got_before got_now got_next left status.Refused splits
-    replied never = absurd never
-IsRun-unreplied desc more session items work got_before got_now got_next left status.Usage splits
-    replied never = absurd never
-IsRun-unreplied desc more session items work got_before got_now got_next left
-    (status.BadDescription line cause) splits replied never = absurd never
-IsRun-unreplied desc more session items work got_before got_now got_next left
-    (status.Input why place) splits replied never = absurd never
-IsRun-unreplied desc more session items work got_before got_now got_next left status.ReadFault
-    splits replied never = absurd never
+IsRun-unreplied desc more session items work got_before got_now got_next left room status.Done
+    splits replied never fits = absurd never
+IsRun-unreplied desc more session items work got_before got_now got_next left room status.Refused
+    splits replied never fits = absurd never
+IsRun-unreplied desc more session items work got_before got_now got_next left room status.Usage
+    splits replied never fits = absurd never
+IsRun-unreplied desc more session items work got_before got_now got_next left room
+    (status.BadDescription line cause) splits replied never fits = absurd never
+IsRun-unreplied desc more session items work got_before got_now got_next left room
+    (status.Input why place) splits replied never fits = absurd never
+IsRun-unreplied desc more session items work got_before got_now got_next left room
+    status.ReadFault splits replied never fits = absurd never
 
 -- the next step could not be read
 pub IsRun-stopped : (desc : DescOf) (base : ℕ) (whole : Session)
-    (got_before got_now : Option (List ℕ)) (journal : List Entry) (line : ℕ) (refused : Bool)
+    (got_before got_now : Option (List ℕ)) (room_before room_now : Option ℕ)
+    (journal : List Entry) (line : ℕ) (refused : Bool)
     (taken taken_now : ℕ) (left left_now : Option (List ℕ)) (fault : ScriptFault)
-    → HasServed desc base whole got_before got_now journal line refused taken left
+    → HasServed desc base whole got_before got_now room_before room_now journal line refused taken
+    left
     → IfSome left (λ bytes.
     IsStep (step_of desc base taken bytes) taken_now left_now (Err fault))
-    → IsRun (Served desc whole) got_before got_now left_now (status_of_fault fault)
-IsRun-stopped desc base whole got_before got_now journal line refused taken taken_now left left_now
-    fault served stepped =
-    subst (λ (whole : Session). IsRun (Served desc whole) got_before got_now left_now
+    → IsRun (Served desc whole) got_before got_now left_now room_before (status_of_fault fault)
+IsRun-stopped desc base whole got_before got_now room_before room_now journal line refused taken
+    taken_now left left_now fault served stepped =
+    subst (λ (whole : Session). IsRun (Served desc whole) got_before got_now left_now room_before
     (status_of_fault fault))
     served.goes_on
     (IsRun-fault desc base served.turns taken taken_now served.rest
     (step_of desc base taken served.rest) served.items served.dues got_before got_now left_now
-    fault refl served.paired served.replied (IfSome-known left served.rest
+    room_before fault refl served.paired served.replied (IfSome-known left served.rest
     (λ bytes. IsStep (step_of desc base taken bytes) taken_now left_now (Err fault))
     served.is_left stepped))
 
+-- a reply that could not be put did not fit the room, and so not all replies do
+unfit-reply : (desc : DescOf) (whole : Session) (items more : List Work) (work : Work)
+    (room_before room_now : Option ℕ) (ended : Status)
+    → whole.items ≡ items ++ work ∷ more
+    → (HasRoomFor room_before (length (replies desc 1 [] whole.items))
+    → room_now ≡ room_after room_before (length (replies desc 1 [] items)))
+    → IsReplyRoom {T = Unit {0}} room_now room_now
+    (reply desc (1 + length items) (serial desc [] items) work) (Err ended)
+    → HasRoomFor room_before (length (replies desc 1 [] whole.items))
+    → ended ≡ status.WriteFault → ⊥
+unfit-reply desc whole items more work room_before room_now ended splits before unfit fits blamed =
+    let text = reply desc (1 + length items) (serial desc [] items) work in
+    let P : Status → Type 0 = λ ended. IsReplyRoom {T = Unit {0}} room_now room_now text (Err ended) in
+    subst P blamed unfit
+    (HasRoomFor-next room_before room_now (length (replies desc 1 [] items)) (length text)
+    (length (replies desc 1 [] whole.items))
+    (length-replies_front desc whole.items items more work splits) before fits)
+
 -- the next item could not be replied to
 pub IsRun-cut : (desc : DescOf) (base : ℕ) (whole : Session)
-    (got_before got_now got_next : Option (List ℕ)) (journal : List Entry) (line : ℕ)
+    (got_before got_now got_next : Option (List ℕ)) (room_before room_now room_next : Option ℕ)
+    (journal : List Entry) (line : ℕ)
     (refused : Bool) (taken taken_now : ℕ) (left left_now : Option (List ℕ)) (work : Work)
     (ended : Status)
-    → HasServed desc base whole got_before got_now journal line refused taken left
+    → HasServed desc base whole got_before got_now room_before room_now journal line refused taken
+    left
     → IfSome left (λ bytes.
     IsStep (step_of desc base taken bytes) taken_now left_now (Ok (Some work)))
     → IsReplied {T = Unit {0}} got_now got_next (reply desc line journal work) (Err ended)
-    → IsRun (Served desc whole) got_before got_next left_now ended
-IsRun-cut desc base whole got_before got_now got_next journal line refused taken taken_now left
-    left_now work ended served stepped cut =
+    → IsReplyRoom {T = Unit {0}} room_now room_next (reply desc line journal work) (Err ended)
+    → IsRun (Served desc whole) got_before got_next left_now room_before ended
+IsRun-cut desc base whole got_before got_now got_next room_before room_now room_next journal line
+    refused taken taken_now left left_now work ended served stepped cut unfit =
     let step = IfSome-known left served.rest
     (λ bytes. IsStep (step_of desc base taken bytes) taken_now left_now (Ok (Some work)))
     served.is_left stepped in
     let goes_on = session_next desc base served.turns taken served.rest served.items served.dues
     whole (Does work step.due taken_now step.rest) step.does served.goes_on in
-    IsRun-unreplied desc (session_from desc base served.turns taken_now step.rest).items whole
-    served.items work got_before got_now got_next left_now ended
-    (sym (ap (λ (session : Session). session.items) goes_on))
-    served.replied
-    (subst (λ (line : ℕ). IsReplied {T = Unit {0}} got_now got_next
-    (reply desc line (serial desc [] served.items) work) (Err ended))
-    served.counted
-    (subst (λ (journal : List Entry). IsReplied {T = Unit {0}} got_now got_next
-    (reply desc line journal work) (Err ended))
-    served.journaled cut))
+    let more = (session_from desc base served.turns taken_now step.rest).items in
+    let splits : whole.items ≡ served.items ++ work ∷ more =
+    sym (ap (λ (session : Session). session.items) goes_on) in
+    let at_item : reply desc line journal work
+    ≡ reply desc (1 + length served.items) (serial desc [] served.items) work =
+    ap (λ (line : ℕ). reply desc line journal work) served.counted
+    ∙ ap (λ (journal : List Entry). reply desc (1 + length served.items) journal work)
+    served.journaled in
+    IsRun-unreplied desc more whole served.items work got_before got_now got_next left_now
+    room_before ended splits served.replied
+    (subst (λ (text : List ℕ). IsReplied {T = Unit {0}} got_now got_next text (Err ended)) at_item
+    cut)
+    (unfit-reply desc whole served.items more work room_before room_now ended splits served.room
+    (IsReplyRoom-Err room_now room_next _ ended
+    (subst (λ (text : List ℕ). IsReplyRoom {T = Unit {0}} room_now room_next text (Err ended))
+    at_item unfit)))

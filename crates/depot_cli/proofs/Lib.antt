@@ -7,6 +7,8 @@ pub mod KeptLemmas
 pub mod LineLemmas
 pub mod OpeningLemmas
 pub mod ReplyLemmas
+pub mod ReplyListLemmas
+pub mod RoomLemmas
 pub mod RunLemmas
 pub mod SessionLemmas
 pub mod SerialLemmas

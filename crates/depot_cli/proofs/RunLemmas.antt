@@ -27,16 +27,17 @@ reading-opened input before taken rest describes ends accepted =
 
 -- the run of a session behind an accepted description is the run of the input
 pub IsRun-opened : (input : List ℕ) (before : Described) (desc : DescOf) (taken : ℕ)
-    (left : Option (List ℕ)) (got_before got_now left_now : Option (List ℕ)) (ended : Status)
+    (left : Option (List ℕ)) (got_before got_now left_now : Option (List ℕ)) (room : Option ℕ)
+    (ended : Status)
     → IsOpening (opening input) taken left (Ok before) → before.bad ≡ None → desc ≡ before.desc
     → IfSome left (λ rest.
-    IsRun (Served desc (session desc taken rest)) got_before got_now left_now ended)
-    → IsRun (reading input) got_before got_now left_now ended
-IsRun-opened input before desc taken left got_before got_now left_now ended opened accepted same
-    served =
+    IsRun (Served desc (session desc taken rest)) got_before got_now left_now room ended)
+    → IsRun (reading input) got_before got_now left_now room ended
+IsRun-opened input before desc taken left got_before got_now left_now room ended opened accepted
+    same served =
     let P : Option (List ℕ) → Type 0 = λ left. IfSome left (λ rest.
-    IsRun (Served desc (session desc taken rest)) got_before got_now left_now ended) in
-    subst (λ (script : Script). IsRun script got_before got_now left_now ended)
+    IsRun (Served desc (session desc taken rest)) got_before got_now left_now room ended) in
+    subst (λ (script : Script). IsRun script got_before got_now left_now room ended)
     (ap (λ (desc : DescOf). Served desc (session desc taken opened.0)) same
     ∙ sym (reading-opened input before taken opened.0 opened.1 opened.2 accepted))
     (subst P opened.3 served)
@@ -65,28 +66,33 @@ GainsTakenOf-start before (Go taken rest) got left is_left =
 GainsTakenOf-start before (Broken why place rest) got left is_left = Appends-nil got
 
 -- the run of an input whose description was not read
-pub IsRun-unopened : (input : List ℕ) (got left : Option (List ℕ)) (fault : ScriptFault)
+pub IsRun-unopened : (input : List ℕ) (got left : Option (List ℕ)) (room : Option ℕ)
+    (fault : ScriptFault)
     → IsOpening (opening input) 0 left (Err fault)
-    → IsRun (reading input) got got left (status_of_fault fault)
-IsRun-unopened input got left (Input why place) breaks =
+    → IsRun (reading input) got got left room (status_of_fault fault)
+IsRun-unopened input got left room (Input why place) breaks =
     subst (λ (end : OpeningEnd).
-    IsRun (script_at (described (opening input).lines) end) got got left (status.Input why place))
+    IsRun (script_at (described (opening input).lines) end) got got left room
+    (status.Input why place))
     (sym breaks.1)
     (record {
       told = refl;
       gains = Appends-nil got;
       left = λ whole. breaks.2;
+      fits = λ room blamed. cc;
     })
-IsRun-unopened input got left ReadFault is_before = record {
+IsRun-unopened input got left room ReadFault is_before = record {
   told = tt;
   gains = GainsTakenOf-start (described (opening input).lines) (opening input).end got left
       is_before;
   left = λ whole. cc;
+  fits = λ room blamed. cc;
 }
-IsRun-unopened input got left Memory breaks = record {
+IsRun-unopened input got left room Memory breaks = record {
   told = tt;
   gains = GainsFrontOf-start (reading input) got;
   left = λ whole. cc;
+  fits = λ room blamed. cc;
 }
 
 -- a bad description is followed by what is left after its `go` line
@@ -101,41 +107,45 @@ reading-misdescribed input before taken line rest describes ends is_bad =
 
 -- the run of an input whose description is not accepted
 pub IsRun-misdescribed : (input : List ℕ) (before : Described) (taken line : ℕ)
-    (got left : Option (List ℕ))
+    (got left : Option (List ℕ)) (room : Option ℕ)
     → IsOpening (opening input) taken left (Ok before) → before.bad ≡ Some line
-    → IsRun (reading input) got got left (status.BadDescription line cause.Later)
-IsRun-misdescribed input before taken line got left opened is_bad =
-    subst (λ (script : Script). IsRun script got got left
+    → IsRun (reading input) got got left room (status.BadDescription line cause.Later)
+IsRun-misdescribed input before taken line got left room opened is_bad =
+    subst (λ (script : Script). IsRun script got got left room
     (status.BadDescription line cause.Later))
     (sym (reading-misdescribed input before taken line opened.0 opened.1 opened.2 is_bad))
     (record {
       told = refl;
       gains = Appends-nil got;
       left = λ whole. opened.3;
+      fits = λ room blamed. cc;
     })
 
 -- a run of which nothing was asked
-pub IsRun-usage : (got left left_now : Option (List ℕ))
-    → IfSome left (λ input. IsRun (reading input) got got left_now status.Usage)
-IsRun-usage got left left_now =
-    IfSome-each left (λ input. IsRun (reading input) got got left_now status.Usage)
+pub IsRun-usage : (got left left_now : Option (List ℕ)) (room : Option ℕ)
+    → IfSome left (λ input. IsRun (reading input) got got left_now room status.Usage)
+IsRun-usage got left left_now room =
+    IfSome-each left (λ input. IsRun (reading input) got got left_now room status.Usage)
     (λ input. record {
       told = tt;
       gains = Appends-nil got;
       left = λ whole. cc;
+      fits = λ room blamed. cc;
     })
 
 -- a session for which there was no memory at its start
 pub IsRun-unserved : (desc : DescOf) (base : ℕ) (got left left_now : Option (List ℕ))
+    (room : Option ℕ)
     → IfSome left (λ input.
-    IsRun (Served desc (session desc base input)) got got left_now status.Memory)
-IsRun-unserved desc base got left left_now =
+    IsRun (Served desc (session desc base input)) got got left_now room status.Memory)
+IsRun-unserved desc base got left left_now room =
     IfSome-each left
-    (λ input. IsRun (Served desc (session desc base input)) got got left_now status.Memory)
+    (λ input. IsRun (Served desc (session desc base input)) got got left_now room status.Memory)
     (λ input. record {
       told = tt;
       gains = GainsFront-start desc (session desc base input) got;
       left = λ whole. cc;
+      fits = λ room blamed. cc;
     })
 
 -- a run that no device ended has the status of its reading, or had no memory

@@ -16,38 +16,10 @@ use Rattle.depot_cli.specs.SerialJournal.{journal_after, serial}
 use Rattle.depot_cli.specs.Replies.{has_refused, is_refused, replies, reply}
 use Rattle.depot_cli.proofs.KnownLemmas.{IfSome-known}
 use Rattle.depot_cli.proofs.LineLemmas.{step_of-leaves}
-
--- the replies to items are those to the first of them and then those to the others, after the
--- journal that the first made
-pub replies-append : (desc : DescOf) (line : ℕ) (journal : List Entry) (items others : List Work)
-    → replies desc line journal (items ++ others)
-    ≡ replies desc line journal items
-    ++ replies desc (line + length items) (serial desc journal items) others
-replies-append desc line journal [] others =
-    ap (λ (line : ℕ). replies desc line journal others) (omega arith)
-replies-append desc line journal (item ∷ items) others =
-    ap (λ (more : List ℕ). reply desc line journal item ++ more)
-    (replies-append desc (line + 1) (journal_after desc journal item) items others)
-    ∙ sym (append_assoc (reply desc line journal item) between
-    (replies desc (line + 1 + length items)
-    (serial desc (journal_after desc journal item) items) others))
-    ∙ ap (λ (line : ℕ). (first ++ between)
-    ++ replies desc line (serial desc (journal_after desc journal item) items) others) (omega arith)
-  where
-    first : List ℕ
-    first = reply desc line journal item
-
-    between : List ℕ
-    between = replies desc (line + 1) (journal_after desc journal item) items
-
--- one reply more
-pub replies-push : (desc : DescOf) (items : List Work) (work : Work)
-    → replies desc 1 [] (items ++ work ∷ [])
-    ≡ replies desc 1 [] items ++ reply desc (1 + length items) (serial desc [] items) work
-replies-push desc items work =
-    replies-append desc 1 [] items (work ∷ [])
-    ∙ ap (λ (last : List ℕ). replies desc 1 [] items ++ last)
-    (append-nil (reply desc (1 + length items) (serial desc [] items) work))
+use Rattle.depot_cli.proofs.ReplyListLemmas.{replies-push}
+use Rattle.depot_cli.proofs.RoomLemmas.{length-replies_front, room_after-step}
+use Rattle.depot_io.specs.Puts.{HasRoomFor, room_after}
+use Rattle.depot_io.proofs.RoomLemmas.{room_after-empty}
 
 -- a session with these items in front, and what is due of each
 abbrev pub after_items : List Work → (dues : List ℕ) → Session → Session
@@ -57,7 +29,8 @@ after_items items dues session =
 -- items were served: what they were replied, what the journal has of them, and whether one was
 -- refused; what is left goes on to the whole session
 pub record HasServed (desc : DescOf) (base : ℕ) (whole : Session)
-    (got_before got_now : Option (List ℕ)) (journal : List Entry) (line : ℕ) (refused : Bool)
+    (got_before got_now : Option (List ℕ)) (room_before room_now : Option ℕ)
+    (journal : List Entry) (line : ℕ) (refused : Bool)
     (taken : ℕ) (left : Option (List ℕ)) : Type 0 where
   pub rest : List ℕ
   pub items : List Work
@@ -68,14 +41,17 @@ pub record HasServed (desc : DescOf) (base : ℕ) (whole : Session)
   pub paired : length dues ≡ length items
   pub goes_on : after_items items dues (session_from desc base (suc turns) taken rest) ≡ whole
   pub replied : Appends got_before got_now (replies desc 1 [] items)
+  pub room : HasRoomFor room_before (length (replies desc 1 [] whole.items))
+      → room_now ≡ room_after room_before (length (replies desc 1 [] items))
   pub journaled : journal ≡ serial desc [] items
   pub counted : line ≡ 1 + length items
   pub told : refused ≡ has_refused items
 
 -- nothing was served
 pub HasServed-start : (desc : DescOf) (base : ℕ) (bytes : List ℕ) (got : Option (List ℕ))
-    → HasServed desc base (session desc base bytes) got got [] 1 false 0 (Some bytes)
-HasServed-start desc base bytes got = record {
+    (room : Option ℕ)
+    → HasServed desc base (session desc base bytes) got got room room [] 1 false 0 (Some bytes)
+HasServed-start desc base bytes got room = record {
   rest = bytes;
   items = [];
   dues = [];
@@ -85,24 +61,25 @@ HasServed-start desc base bytes got = record {
   paired = refl;
   goes_on = refl;
   replied = Appends-nil got;
+  room = λ fits. sym (room_after-empty room);
   journaled = refl;
   counted = refl;
   told = refl;
 }
 
 -- nothing was served of what a source has left
-pub HasServed-init : (desc : DescOf) (base : ℕ) (left got : Option (List ℕ)) (journal : List Entry)
-    (taken : ℕ)
+pub HasServed-init : (desc : DescOf) (base : ℕ) (left got : Option (List ℕ)) (room : Option ℕ)
+    (journal : List Entry) (taken : ℕ)
     → journal ≡ [] → taken ≡ 0
     → IfSome left (λ input.
-    HasServed desc base (session desc base input) got got journal 1 false taken left)
-HasServed-init desc base None got journal taken is_new is_start = tt
-HasServed-init desc base (Some input) got journal taken is_new is_start =
+    HasServed desc base (session desc base input) got got room room journal 1 false taken left)
+HasServed-init desc base None got room journal taken is_new is_start = tt
+HasServed-init desc base (Some input) got room journal taken is_new is_start =
     let P : List Entry → ℕ → Type 0 = λ journal taken.
-    HasServed desc base (session desc base input) got got journal 1 false taken (Some input) in
+    HasServed desc base (session desc base input) got got room room journal 1 false taken (Some input) in
     subst (λ (taken : ℕ). P journal taken) (sym is_start)
     (subst (λ (journal : List Entry). P journal 0) (sym is_new)
-    (HasServed-start desc base input got))
+    (HasServed-start desc base input got room))
 
 -- what the session is from here on, at its next step
 pub session_next : (desc : DescOf) (base turns taken : ℕ) (rest : List ℕ) (items : List Work)
@@ -137,30 +114,53 @@ Appends-reply before now next text more all first second is_all =
 
 -- an item that was done and replied to
 pub HasServed-item : (desc : DescOf) (base : ℕ) (whole : Session)
-    (got_before got_now got_next : Option (List ℕ)) (journal journal_next : List Entry) (line : ℕ)
+    (got_before got_now got_next : Option (List ℕ)) (room_before room_now room_next : Option ℕ)
+    (journal journal_next : List Entry) (line : ℕ)
     (refused : Bool) (taken taken_next : ℕ) (left left_next : Option (List ℕ)) (work : Work)
-    → HasServed desc base whole got_before got_now journal line refused taken left
+    → HasServed desc base whole got_before got_now room_before room_now journal line refused taken
+    left
     → IfSome left (λ bytes.
     IsStep (step_of desc base taken bytes) taken_next left_next (Ok (Some work)))
     → Appends got_now got_next (reply desc line journal work)
+    → (HasRoomFor room_now (length (reply desc line journal work))
+    → room_next ≡ room_after room_now (length (reply desc line journal work)))
     → journal_next ≡ journal_after desc journal work
-    → HasServed desc base whole got_before got_next journal_next (line + 1)
-    (refused || is_refused work) taken_next left_next
-HasServed-item desc base whole got_before got_now got_next journal journal_next line refused
-    taken taken_next left left_next work served stepped put next =
+    → HasServed desc base whole got_before got_next room_before room_next journal_next
+    (line + 1) (refused || is_refused work) taken_next left_next
+HasServed-item desc base whole got_before got_now got_next room_before room_now room_next journal
+    journal_next line refused taken taken_next left left_next work served stepped put takes next =
     let step = IfSome-known left served.rest
     (λ bytes. IsStep (step_of desc base taken bytes) taken_next left_next (Ok (Some work)))
     served.is_left stepped in
     behind served.turns step.due step.rest served.enough step.does step.is_left served.goes_on
   where
+    at_item : reply desc line journal work
+        ≡ reply desc (1 + length served.items) (serial desc [] served.items) work
+    at_item =
+        ap (λ (line : ℕ). reply desc line journal work) served.counted
+        ∙ ap (λ (journal : List Entry). reply desc (1 + length served.items) journal work)
+        served.journaled
+
+    splits : (turns due : ℕ) (rest : List ℕ)
+        → step_of desc base taken served.rest ≡ Does work due taken_next rest
+        → after_items served.items served.dues
+        (session_from desc base (suc (suc turns)) taken served.rest)
+        ≡ whole
+        → whole.items
+        ≡ served.items ++ work ∷ (session_from desc base (suc turns) taken_next rest).items
+    splits turns due rest step goes_on =
+        sym (ap (λ (session : Session). session.items)
+        (session_next desc base (suc turns) taken served.rest served.items served.dues whole
+        (Does work due taken_next rest) step goes_on))
+
     behind : (turns due : ℕ) (rest : List ℕ) → length served.rest ≤ turns
         → step_of desc base taken served.rest ≡ Does work due taken_next rest
         → left_next ≡ Some rest
         → after_items served.items served.dues
         (session_from desc base (suc turns) taken served.rest)
         ≡ whole
-        → HasServed desc base whole got_before got_next journal_next (line + 1)
-        (refused || is_refused work) taken_next left_next
+        → HasServed desc base whole got_before got_next room_before room_next journal_next
+        (line + 1) (refused || is_refused work) taken_next left_next
     behind zero due rest enough step is_left goes_on =
         absurd (omega (
           arith,
@@ -187,12 +187,23 @@ HasServed-item desc base whole got_before got_now got_next journal journal_next 
           ∙ session_next desc base (suc turns) taken served.rest served.items served.dues whole
           (Does work due taken_next rest) step goes_on;
       replied = Appends-reply got_before got_now got_next _ _ _ served.replied put
-          (ap (λ (line : ℕ). replies desc 1 [] served.items ++ reply desc line journal work)
-          served.counted
-          ∙ ap (λ (journal : List Entry). replies desc 1 [] served.items
-          ++ reply desc (1 + length served.items) journal work)
-          served.journaled
+          (ap (λ (text : List ℕ). replies desc 1 [] served.items ++ text) at_item
           ∙ sym (replies-push desc served.items work));
+      room = λ fits.
+          room_after-step room_before room_now room_next
+          (length (replies desc 1 [] served.items))
+          (length (reply desc (1 + length served.items) (serial desc [] served.items) work))
+          (length (replies desc 1 [] whole.items))
+          (length-replies_front desc whole.items served.items
+          (session_from desc base (suc turns) taken_next rest).items work (splits turns due rest step goes_on))
+          served.room
+          (subst (λ (text : List ℕ). HasRoomFor room_now (length text)
+          → room_next ≡ room_after room_now (length text)) at_item takes)
+          fits
+          ∙ ap (λ (count : ℕ). room_after room_before count)
+          (sym (ap length (replies-push desc served.items work)
+          ∙ length-append (replies desc 1 [] served.items)
+          (reply desc (1 + length served.items) (serial desc [] served.items) work)));
       journaled = next
           ∙ ap (λ (journal : List Entry). journal_after desc journal work) served.journaled
           ∙ sym (fold-append (journal_after desc) [] served.items (work ∷ []));

@@ -3,6 +3,7 @@ use Rattle.std.specs.Prelude.{ℕ, ◌≡◌, ◌≤◌, ◌+◌, List, [], ◌�
 use Rattle.std.specs.declared.option.Option.{Option}
 use Rattle.std.specs.Io.KnownBytes.{Appends}
 use Rattle.depot_io.specs.Causes.{Rose}
+use Rattle.depot_io.specs.Puts.{HasRoomFor}
 use Rattle.std.specs.Str.{bytes_eq}
 use Rattle.depot_cli.specs.declared.run.status.Status.{Status}
 use Rattle.depot_cli.specs.declared.run.status.Status.TheVariants as status
@@ -142,12 +143,14 @@ Gains script before now left status.WriteFault = GainsFrontOf script before now
 Gains script before now left status.Memory = GainsFrontOf script before now
 
 -- a run that this reading stands for: its status is the reading's; the sink has gained what that
--- says; and where it came to the end of its reading, the source has left what that leaves
+-- says; if the run came to the end of its reading, the source has left what that leaves; and if the
+-- replies fit the room that the sink told before, the sink is not blamed
 pub record IsRun (script : Script) (got_before got_now left_now : Option (List ℕ))
-    (ended : Status) : Type 0 where
+    (room : Option ℕ) (ended : Status) : Type 0 where
   pub told : IsStatusOf script ended
   pub gains : Gains script got_before got_now left_now ended
   pub left : is_read ended ≡ true → left_now ≡ Some (left_of script)
+  pub fits : HasRoomFor room (length (replies_of script)) → ended ≡ status.WriteFault → ⊥
 
 -- the count of the source's faults rose if the run tells of one, and stayed otherwise
 abbrev pub IsReadCause : (before now : ℕ) → Status → Type 0

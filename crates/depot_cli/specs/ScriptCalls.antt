@@ -2,7 +2,7 @@
 use Rattle.std.specs.Prelude.{ℕ, ◌≡◌, ◌≤◌, ◌<◌, ◌-◌, List, [], Option, Some, None, length, Bool, true, false, Result, Ok, Err, ⊤}
 use Rattle.std.specs.Io.KnownBytes.{Appends}
 use Rattle.depot_io.specs.Causes.{Rose}
-use Rattle.depot_io.specs.Puts.{GainsPrefix}
+use Rattle.depot_io.specs.Puts.{GainsPrefix, HasRoomFor, room_after}
 use Rattle.depot_cli.specs.declared.script.ScriptFault.{ScriptFault}
 use Rattle.depot_cli.specs.declared.script.ScriptFault.TheVariants.{Input, ReadFault, Memory}
 use Rattle.depot_cli.specs.declared.run.status.Status.{Status}
@@ -134,6 +134,14 @@ IsReplied before now reply (Err status.Usage) = ⊥
 IsReplied before now reply (Err (status.BadDescription _ _)) = ⊥
 IsReplied before now reply (Err (status.Input _ _)) = ⊥
 IsReplied before now reply (Err status.ReadFault) = ⊥
+
+-- what a reply does to the room that the sink tells: one that fits lowers it, and does not fail
+abbrev pub IsReplyRoom : {T : Type 0} → (before now : Option ℕ) → (reply : List ℕ)
+    → Result T Status → Type 0
+IsReplyRoom before now reply (Ok _) =
+    HasRoomFor before (length reply) → now ≡ room_after before (length reply)
+IsReplyRoom before now reply (Err status.WriteFault) = HasRoomFor before (length reply) → ⊥
+IsReplyRoom before now reply (Err _) = ⊤
 
 -- the answer for an opening that was taken off a lent source, and how many bytes it took
 abbrev pub IsOpened : Opening → (left : Option (List ℕ))

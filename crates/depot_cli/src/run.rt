@@ -39,7 +39,7 @@ pub fn run<S: Source, O: Sink>(
     ensures untouched { is_unserved result ≡ true → sink.new ≡ sink.old }
     ensures run { IfSome (S.bytes_left source.old) (λ input.
         IsRun (reading input) (O.bytes_got sink.old) (O.bytes_got sink.new)
-        (S.bytes_left source.new) result) }
+        (S.bytes_left source.new) (O.room sink.old) result) }
     ensures causes { HasRunCauses (S.faults source.old) (S.faults source.new)
         (O.faults sink.old) (O.faults sink.new) result }
 {
@@ -66,7 +66,7 @@ fn trial<S: Source, O: Sink>(alloc: Global, source: &mut S, sink: &mut O) -> Sta
     ensures untouched { is_unserved result ≡ true → sink.new ≡ sink.old }
     ensures run { IfSome (S.bytes_left source.old) (λ input.
         IsRun (reading input) (O.bytes_got sink.old) (O.bytes_got sink.new)
-        (S.bytes_left source.new) result) }
+        (S.bytes_left source.new) (O.room sink.old) result) }
     ensures causes { HasRunCauses (S.faults source.old) (S.faults source.new)
         (O.faults sink.old) (O.faults sink.new) result }
 {
@@ -124,7 +124,7 @@ fn serve_source<S: Source, O: Sink>(
     requires in_input { base ≤ LIMIT }
     ensures run { IfSome (S.bytes_left source.old) (λ input.
         IsRun (Served desc.now (session desc.now base input)) (O.bytes_got sink.old)
-        (O.bytes_got sink.new) (S.bytes_left source.new) result) }
+        (O.bytes_got sink.new) (S.bytes_left source.new) (O.room sink.old) result) }
     ensures causes { HasRunCauses (S.faults source.old) (S.faults source.new)
         (O.faults sink.old) (O.faults sink.new) result }
     ensures others { EndsSession result }

@@ -5,7 +5,7 @@ ghost use Rattle.depot_io.specs.Causes.{Rose};
 ghost use Rattle.depot_io.specs.Lines.{LIMIT};
 ghost use Rattle.table_desc.specs.Served.{IsServed};
 ghost use Rattle.depot_cli.specs.Reading.{Served, session};
-ghost use Rattle.depot_cli.specs.ScriptCalls.{IsAnswerable, IsReplied, IsReplyCause, status_of_fault};
+ghost use Rattle.depot_cli.specs.ScriptCalls.{IsAnswerable, IsReplied, IsReplyCause, IsReplyRoom, status_of_fault};
 ghost use Rattle.depot_cli.specs.SerialJournal.{journal_after};
 ghost use Rattle.depot_cli.specs.KeptJournals.{IsKept};
 ghost use Rattle.depot_cli.specs.Replies.{is_refused, reply};
@@ -36,7 +36,7 @@ pub fn serve<S: Source, O: Sink>(
     requires start { reader.old.taken ≡ 0 }
     ensures run { IfSome (S.bytes_left reader.old.source) (λ input.
         IsRun (Served desc.now (session desc.now base input)) (O.bytes_got sink.old)
-        (O.bytes_got sink.new) (S.bytes_left reader.new.source) result) }
+        (O.bytes_got sink.new) (S.bytes_left reader.new.source) (O.room sink.old) result) }
     ensures causes { HasRunCauses (S.faults reader.old.source) (S.faults reader.new.source)
         (O.faults sink.old) (O.faults sink.new) result }
     ensures others { EndsSession result }
@@ -65,7 +65,7 @@ fn serve_items<S: Source, O: Sink>(
     requires start { reader.old.taken ≡ 0 }
     ensures run { IfSome (S.bytes_left reader.old.source) (λ input.
         IsRun (Served desc.now (session desc.now base input)) (O.bytes_got sink.old)
-        (O.bytes_got sink.new) (S.bytes_left reader.new.source) result) }
+        (O.bytes_got sink.new) (S.bytes_left reader.new.source) (O.room sink.old) result) }
     ensures causes { HasRunCauses (S.faults reader.old.source) (S.faults reader.new.source)
         (O.faults sink.old) (O.faults sink.new) result }
     ensures others { EndsSession result }
@@ -104,6 +104,8 @@ fn serve_item<O: Sink>(
     requires kept { IsKept desc.now journal.old }
     requires in_range { IsAnswerable work }
     ensures replied { IsReplied (O.bytes_got sink.old) (O.bytes_got sink.new)
+        (reply desc.now line journal.old.entries work) result }
+    ensures room { IsReplyRoom (O.room sink.old) (O.room sink.new)
         (reply desc.now line journal.old.entries work) result }
     ensures ok { OnOk result
         (journal.new.entries ≡ journal_after desc.now journal.old.entries work) }

@@ -7,7 +7,7 @@ use Rattle.depot_cli.proofs.run.trial.Goals as goal
 pub returns-clause-run : goal.returns-clause-run
 returns-clause-run g c =
     IfSome_then _ c.in-Ok.ensures.answer (λ input opened.
-    IsRun-opened input c.in-Ok.opened.0 c.into_desc-desc.result c.in-Ok.opened.1 _ _ _ _ _
+    IsRun-opened input c.in-Ok.opened.0 c.into_desc-desc.result c.in-Ok.opened.1 _ _ _ _ _ _
     opened (sym c.bad.ensures.exact ∙ c.in-None.is) c.into_desc-desc.ensures.exact
     c.serve_source.ensures.run)
 
@@ -15,10 +15,11 @@ pub returns-in-Err-clause-run : goal.returns-in-Err-clause-run
 returns-in-Err-clause-run g c =
     rw c.status_of.ensures (IfSome_then _ c.in-Err.ensures.answer (λ input breaks.
     IsRun-unopened input (g.O.Sink.bytes_got c.args.sink.now)
-    (g.S.Source.bytes_left c.open.new.source) c.in-Err.fault breaks))
+    (g.S.Source.bytes_left c.open.new.source) (g.O.Sink.room c.args.sink.now) c.in-Err.fault
+    breaks))
 
 pub returns-in-Some-clause-run : goal.returns-in-Some-clause-run
 returns-in-Some-clause-run g c =
     IfSome_then _ c.in-Ok.ensures.answer (λ input opened.
-    IsRun-misdescribed input c.in-Ok.opened.0 c.in-Ok.opened.1 c.in-Some.line _ _ opened
+    IsRun-misdescribed input c.in-Ok.opened.0 c.in-Ok.opened.1 c.in-Some.line _ _ _ opened
     (sym c.bad.ensures.exact ∙ c.in-Some.is))

@@ -8,7 +8,7 @@ use Rattle.depot_cli.proofs.run.session.serve_items.Goals as goal
 
 pub items-init : goal.items-init
 items-init g c = record {
-  served = HasServed-init _ _ _ _ _ _ c.requires.empty c.requires.start;
+  served = HasServed-init _ _ _ _ _ _ _ c.requires.empty c.requires.start;
   kept = c.requires.kept;
   lines = omega arith;
   within = omega arith;
@@ -25,7 +25,8 @@ items-preserved g c =
       served = rw c.is_refused-is_refused.ensures
           (IfSome_then _ c.items.invariant.served (λ input served.
           HasServed-item c.args.desc.now c.args.base (session c.args.desc.now c.args.base input)
-          _ _ _ _ _ _ _ _ _ _ _ _ served answer c.in-Ok.ensures.replied c.in-Ok.ensures.ok));
+          _ _ _ _ _ _ _ _ _ _ _ _ _ _ _ served answer c.in-Ok.ensures.replied
+          c.in-Ok.ensures.room c.in-Ok.ensures.ok));
       kept = c.in-Ok.ensures.kept;
       lines = omega (arith, more);
       within = omega (arith, c.in-Ok-Some.ensures.kept.within);
@@ -39,7 +40,7 @@ returns-in-Err-clause-run g c =
     let answer = rw c.in-Err.fault-is at c.in-Err.ensures.answer in
     let run = IfSome_then _ c.items.invariant.served (λ input served.
     IsRun-stopped c.args.desc.now c.args.base (session c.args.desc.now c.args.base input)
-    _ _ _ _ _ _ c.next_work.new.reader.taken _ _ _ served answer) in
+    _ _ _ _ _ _ _ _ c.next_work.new.reader.taken _ _ _ served answer) in
     rw c.status_of.ensures run
 
 pub returns-in-Err-serve_item-clause-run : goal.returns-in-Err-serve_item-clause-run
@@ -47,4 +48,6 @@ returns-in-Err-serve_item-clause-run g c =
     let answer = rw c.in-Ok-Some.field-0-is at c.in-Ok-Some.ensures.answer in
     IfSome_then _ c.items.invariant.served (λ input served.
     IsRun-cut c.args.desc.now c.args.base (session c.args.desc.now c.args.base input)
-    _ _ _ _ _ _ _ _ _ _ _ _ served answer c.in-Err-serve_item.ensures.replied)
+    _ _ _ _ _ (g.O.Sink.room c.serve_item.new.sink) _ _ _ _ _ _ _ _ _ served answer
+    c.in-Err-serve_item.ensures.replied
+    c.in-Err-serve_item.ensures.room)

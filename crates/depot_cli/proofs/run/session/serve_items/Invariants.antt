@@ -12,6 +12,7 @@ invariant-items g l = record {
   served : IfSome (g.S.Source.bytes_left l.fn.reader.source) (λ input.
       HasServed l.desc l.base (session l.desc l.base input)
       (g.O.Sink.bytes_got l.fn.sink) (g.O.Sink.bytes_got l.sink)
+      (g.O.Sink.room l.fn.sink) (g.O.Sink.room l.sink)
       l.journal.entries l.line l.refused l.reader.taken (g.S.Source.bytes_left l.reader.source));
   kept : IsKept l.desc l.journal;
   lines : l.line ≤ l.reader.taken + 1;
