@@ -147,21 +147,3 @@ IsRun-unserved desc base got left left_now room =
       left = λ whole. cc;
       fits = λ room blamed. cc;
     })
-
--- a run that no device ended has the status of its reading, or had no memory
-pub status_of-complete : HasCompleteRuns
-status_of-complete script status.Done rb rn wb wn told causes no_read no_write command =
-    inl (sym told)
-status_of-complete script status.Refused rb rn wb wn told causes no_read no_write command =
-    inl (sym told)
-status_of-complete script status.Usage rb rn wb wn told causes no_read no_write command =
-    absurd (command refl)
-status_of-complete script (status.BadDescription line cause) rb rn wb wn told causes no_read
-    no_write command = inl (sym told)
-status_of-complete script (status.Input why place) rb rn wb wn told causes no_read no_write
-    command = inl (sym told)
-status_of-complete script status.ReadFault rb rn wb wn told causes no_read no_write command =
-    absurd (no_read causes.read)
-status_of-complete script status.WriteFault rb rn wb wn told causes no_read no_write command =
-    absurd (no_write causes.write)
-status_of-complete script status.Memory rb rn wb wn told causes no_read no_write command = inr refl

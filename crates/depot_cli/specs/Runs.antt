@@ -185,13 +185,21 @@ is_unserved _ = false
 abbrev pub EndsSession : Status → Type 0
 EndsSession ended = is_unserved ended ≡ false
 
--- where no device fails and the command line is one, a run has the status of its reading, but for
--- want of memory
+-- a run that did all that its reading says: its status, exactly the replies, and what is left
+pub record IsComplete (script : Script) (got_before got_now left_now : Option (List ℕ))
+    (ended : Status) : Type 0 where
+  pub told : ended ≡ status_of script
+  pub replied : Appends got_before got_now (replies_of script)
+  pub left : left_now ≡ Some (left_of script)
+
+-- the run of a command over a source that does not fail is complete, or there was no memory, if the
+-- replies fit the room that the sink told, or the sink does not fail
 abbrev pub HasCompleteRuns : Type 0
-HasCompleteRuns = (script : Script) (ended : Status)
-    (reads_before reads_now writes_before writes_now : ℕ)
-    → IsStatusOf script ended
+HasCompleteRuns = (script : Script) (got_before got_now left_now : Option (List ℕ))
+    (room : Option ℕ) (ended : Status) (reads_before reads_now writes_before writes_now : ℕ)
+    → IsRun script got_before got_now left_now room ended
     → HasRunCauses reads_before reads_now writes_before writes_now ended
-    → (Rose reads_before reads_now → ⊥) → (Rose writes_before writes_now → ⊥)
     → (ended ≡ status.Usage → ⊥)
-    → (ended ≡ status_of script) ⊎ (ended ≡ status.Memory)
+    → (Rose reads_before reads_now → ⊥)
+    → HasRoomFor room (length (replies_of script)) ⊎ (Rose writes_before writes_now → ⊥)
+    → IsComplete script got_before got_now left_now ended ⊎ (ended ≡ status.Memory)

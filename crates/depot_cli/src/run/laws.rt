@@ -9,8 +9,9 @@ pub fn serial_is_legal()
     ensures law { HasLegalSerial }
 {}
 
-/// A law: where no device fails and the words are a command, a run has the status that its reading
-/// gives, but for want of memory.
+/// A law: the run of a command over a source that does not fail, into a sink that has room for the
+/// replies or does not fail, has the status of its reading, exactly its replies, and leaves what it
+/// leaves; or there was no memory.
 pub fn runs_are_complete()
     ensures law { HasCompleteRuns }
 {}
