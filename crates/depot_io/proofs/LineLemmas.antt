@@ -1,6 +1,8 @@
--- A line that has no LF in it: its span, and what std's first line is of it, with an LF behind it
+-- A line that has no LF in it: its span, and what std's first line is of it, with an LF after it
 -- or without.
-use Rattle.std.proofs.Common.{◌≡◌, ℕ, ◌+◌, ◌-◌, ◌<◌, Bool, true, false, ◌&&◌, not, cond, eqb, List, [], ◌∷◌, ◌++◌, length, take, get_or, refl, sym, ◌∙◌, ap, arith, append-nil, length-append, nat_lt}
+use Rattle.std.proofs.Common.{◌≡◌, ℕ, ◌+◌, ◌-◌, ◌<◌, Bool, true, false, ◌&&◌, not, cond, eqb, nat_lt}
+use Rattle.std.proofs.Common.{List, [], ◌∷◌, ◌++◌, length, take, get_or}
+use Rattle.std.proofs.Common.{refl, sym, ◌∙◌, ap, arith, append-nil, length-append}
 use Rattle.std.proofs.Math.Seq.{take-append_seam, get_or-append_seam}
 use Rattle.std.proofs.lemmas.Bool.{eq-eqb, lt-ltb}
 use Rattle.std.proofs.lemmas.List.Folds.{prefix_len-append}
@@ -9,7 +11,7 @@ use Rattle.std.specs.Prelude.{◌==◌}
 use Rattle.std.specs.Io.BufRead.{take_through, ends_with_byte, strip_last, first_line}
 use Rattle.depot_io.specs.Lines.{span}
 
--- what stands behind a line with no LF in it adds its own span
+-- what stands after a line with no LF in it adds its own span
 pub span-append : (line rest : List ℕ) → span line ≡ length line
     → span (line ++ rest) ≡ length line + span rest
 span-append line rest unbroken =
@@ -69,7 +71,7 @@ line_of : List ℕ → List ℕ
 line_of through =
     cond (ends_with_byte 10 through) (strip_last 13 (strip_last 10 through)) (strip_last 10 through)
 
--- a line with an LF behind it loses that, and one CR
+-- a line with an LF after it loses that, and one CR
 pub first_line-newline : (line rest : List ℕ) → span line ≡ length line
     → first_line (line ++ 10 ∷ rest) ≡ strip_last 13 line
 unfolding line_of

@@ -8,7 +8,7 @@ use Rattle.depot_io.specs.declared.line_reader.LineFault.TheVariants.{ReadFault,
 use Rattle.depot_io.specs.declared.line_reader.Stop.{Stop}
 use Rattle.depot_io.specs.declared.line_reader.Stop.TheVariants.{Newline, Dry, Full}
 use Rattle.depot_io.specs.declared.source.Failed.{Failed}
-use Rattle.depot_io.specs.Lines.{LIMIT, span, line_take, ReadsLine, WalksLine}
+use Rattle.depot_io.specs.Lines.{LIMIT, span, line_take, IsLineAnswer, ReadsLine, WalksLine}
 use Rattle.depot_io.proofs.LineLemmas.{span-append, first_line-newline, first_line-last}
 
 -- how far the line reaches in these bytes, and how many they are
@@ -89,6 +89,21 @@ walk-full (Some bytes) (Some rest) before after most line walk within room short
       taken = count;
     }
 
+-- the answer for a line that an LF ends
+newline-answer : (bytes line shown rest : List ℕ) (before after most len : ℕ)
+    → WalksLine (Some bytes) (Some rest) before after most line (Ok Newline)
+    → after ≡ min LIMIT (before + line_take bytes) → most ≤ 4097 → after ≢ LIMIT
+    → shown ≡ strip_last 13 line
+    → IsLineAnswer bytes before shown (Ok (Text len))
+newline-answer bytes line shown rest before after most len walk count room short is =
+    let m = measured bytes line (10 ∷ []) rest walk.unbroken walk.took in
+    let split : bytes ≡ line ++ 10 ∷ rest = walk.took ∙ append_assoc line (10 ∷ []) rest in (
+      omega (arith, count, short),
+      omega (arith, m.counts),
+      omega (arith, m.spans, walk.stop),
+      is ∙ sym (ap first_line split ∙ first_line-newline line rest walk.unbroken),
+    )
+
 -- a walk that met an LF took a line
 pub walk-newline : (old new : Option (List ℕ)) (before after most len : ℕ) (line shown : List ℕ)
     → WalksLine old new before after most line (Ok Newline)
@@ -99,19 +114,28 @@ walk-newline None new before after most len line shown walk within room short is
 walk-newline (Some bytes) None before after most len line shown walk within room short is =
     absurd walk.took
 walk-newline (Some bytes) (Some rest) before after most len line shown walk within room short is =
-    let m = measured bytes line (10 ∷ []) rest walk.unbroken walk.took in
     let count =
     walk-count (Some bytes) (Some rest) before after most line Newline walk within room in
-    let split : bytes ≡ line ++ 10 ∷ rest = walk.took ∙ append_assoc line (10 ∷ []) rest in
-    record {
-      answer = (
-        omega (arith, count, short),
-        omega (arith, m.counts),
-        omega (arith, m.spans, walk.stop),
-        is ∙ sym (ap first_line split ∙ first_line-newline line rest walk.unbroken),
-      );
-      taken = count;
-    }
+    let answer =
+    newline-answer bytes line shown rest before after most len walk count (omega arith) short is in
+    record { answer = answer; taken = count }
+
+-- the answer for a line that the input ends
+dry-answer : (bytes line rest : List ℕ) (before after most len : ℕ)
+    → WalksLine (Some bytes) (Some rest) before after most line (Ok Dry)
+    → after ≡ min LIMIT (before + line_take bytes) → most ≤ 4097 → after ≢ LIMIT → 0 < length line
+    → IsLineAnswer bytes before line (Ok (Text len))
+dry-answer bytes line rest before after most len walk count room short some =
+    let m = measured bytes line [] rest walk.unbroken walk.took in
+    let none : span rest ≡ 0 = ap span walk.stop.1 in
+    let whole : bytes ≡ line =
+    walk.took ∙ ap (λ l. (line ++ []) ++ l) walk.stop.1 ∙ append-nil (line ++ [])
+    ∙ append-nil line in (
+      omega (arith, count, short),
+      omega (arith, m.counts),
+      omega (arith, m.spans, walk.stop.0),
+      sym (ap first_line whole ∙ first_line-last line walk.unbroken),
+    )
 
 -- a walk that met the end after some bytes took a line that is kept whole
 pub walk-dry : (old new : Option (List ℕ)) (before after most len : ℕ) (line : List ℕ)
@@ -121,18 +145,7 @@ pub walk-dry : (old new : Option (List ℕ)) (before after most len : ℕ) (line
 walk-dry None new before after most len line walk within room short some = tt
 walk-dry (Some bytes) None before after most len line walk within room short some = absurd walk.took
 walk-dry (Some bytes) (Some rest) before after most len line walk within room short some =
-    let m = measured bytes line [] rest walk.unbroken walk.took in
     let count = walk-count (Some bytes) (Some rest) before after most line Dry walk within room in
-    let none : span rest ≡ 0 = ap span walk.stop.1 in
-    let whole : bytes ≡ line =
-    walk.took ∙ ap (λ l. (line ++ []) ++ l) walk.stop.1 ∙ append-nil (line ++ [])
-    ∙ append-nil line in
-    record {
-      answer = (
-        omega (arith, count, short),
-        omega (arith, m.counts),
-        omega (arith, m.spans, walk.stop.0),
-        sym (ap first_line whole ∙ first_line-last line walk.unbroken),
-      );
-      taken = count;
-    }
+    let answer =
+    dry-answer bytes line rest before after most len walk count (omega arith) short some in
+    record { answer = answer; taken = count }

@@ -7,7 +7,7 @@ ghost use Rattle.std.specs.Io.KnownBytes.{Keeps, IsAtEnd, ReadConsumes};
 ghost use Rattle.depot_io.specs.Causes.{HasCause};
 ghost use Rattle.depot_io.specs.Adapters.{ahead_left};
 
-use crate::source::count_fault;
+use crate::source::{copy_front, count_fault};
 use crate::{Failed, Sink, Source};
 use std::io::{Read, Write};
 
@@ -94,10 +94,8 @@ impl<R: Read> Source for ReadAhead<R> {
             return self.pass(into);
         }
         self.make_ready()?;
-        let count = into.len().min(self.end - self.at);
-        let end = self.at + count;
-        into[..count].copy_from_slice(&self.ahead[self.at..end]);
-        self.at = end;
+        let count = copy_front(&self.ahead[self.at..self.end], into);
+        self.at += count;
         Ok(count)
     }
 }

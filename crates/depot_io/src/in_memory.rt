@@ -6,7 +6,7 @@ ghost use Rattle.depot_io.specs.Causes.{HasCause};
 ghost use Rattle.depot_io.specs.Puts.{TakesWithin};
 ghost use Rattle.depot_io.specs.InMemory.{PutsListed, TakesListed, told_room};
 
-use crate::source::count_fault;
+use crate::source::{copy_front, count_fault};
 use crate::{Failed, Sink, Source};
 use std::alloc::{AllocError, Global};
 use std::marker::Model;
@@ -59,10 +59,8 @@ impl Source for NeverSource {
         ensures cause { HasCause 0 0 result }
         ensures exact { result ≡ Ok (min (length into.old) (length self.old)) }
     {
-        let count = into.len().min(self.bytes.len() - self.at);
-        let end = self.at + count;
-        into[..count].copy_from_slice(&self.bytes[self.at..end]);
-        self.at = end;
+        let count = copy_front(&self.bytes[self.at..], into);
+        self.at += count;
         Ok(count)
     }
 }

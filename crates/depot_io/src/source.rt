@@ -1,5 +1,5 @@
 //! The trait of what bytes are taken from.
-ghost use Rattle.std.specs.Prelude.{◌≡◌, ℕ, List, Some};
+ghost use Rattle.std.specs.Prelude.{◌≡◌, ℕ, List, length, min, take, Some};
 ghost use Rattle.std.specs.declared.option.Option.{Option};
 ghost use Rattle.std.specs.Borrow.{GName};
 ghost use Rattle.std.specs.Io.{ReadsAtMost};
@@ -50,4 +50,14 @@ pub(crate) fn count_fault(faults: &mut u64) -> Failed
 {
     *faults = faults.saturating_add(1);
     Failed
+}
+
+/// Copies as many bytes as the piece has room for, into its front, and answers how many.
+pub(crate) fn copy_front(from: &[u8], into: &mut [u8]) -> usize
+    ensures exact { result ≡ min (length into.old) (length from.now) }
+    ensures copied { take result into.new ≡ take result from.now }
+{
+    let count = into.len().min(from.len());
+    into[..count].copy_from_slice(&from[..count]);
+    count
 }

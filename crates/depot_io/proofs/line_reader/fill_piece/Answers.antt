@@ -1,4 +1,4 @@
--- What the source gave stands behind the front that was filled before.
+-- What the source gave stands after the front that was filled before.
 use Rattle.std.proofs.Common.{rules, arith, ◌-◌, ◌≤◌, length}
 use Rattle.std.proofs.KnownBytes.{Consumes-trans}
 use borrow.Rule.Slice.PartMut.{same_len_mid}
