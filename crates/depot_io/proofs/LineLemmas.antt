@@ -1,6 +1,7 @@
 -- A line that has no LF in it: its span, and what std's first line is of it, with an LF after it
 -- or without.
-use Rattle.std.proofs.Common.{◌≡◌, ℕ, ◌+◌, ◌-◌, ◌<◌, Bool, true, false, ◌&&◌, not, cond, eqb, nat_lt}
+use Rattle.std.proofs.Common.{◌≡◌, ℕ, ◌+◌, ◌-◌, ◌<◌, Bool, true, false}
+use Rattle.std.proofs.Common.{◌&&◌, not, cond, eqb, nat_lt}
 use Rattle.std.proofs.Common.{List, [], ◌∷◌, ◌++◌, length, take, get_or}
 use Rattle.std.proofs.Common.{refl, sym, ◌∙◌, ap, arith, append-nil, length-append}
 use Rattle.std.proofs.Math.Seq.{take-append_seam, get_or-append_seam}

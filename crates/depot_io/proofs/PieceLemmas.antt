@@ -1,7 +1,9 @@
 -- Pieces: windows of some bytes, and what is read after a front that was filled before.
-use Rattle.std.proofs.Common.{◌≡◌, ℕ, ◌+◌, ◌-◌, ◌≤◌, List, [], ◌++◌, length, take, drop, sym, ◌∙◌, ap, arith}
+use Rattle.std.proofs.Common.{◌≡◌, ℕ, ◌+◌, ◌-◌, ◌≤◌, List, [], ◌++◌}
+use Rattle.std.proofs.Common.{length, take, drop, sym, ◌∙◌, ap, arith}
 use Rattle.std.proofs.Math.Seq.{take-append-add}
-use Rattle.std.proofs.lemmas.List.{take-append-drop, take-append-le, drop-take, drop-drop, length-drop, length-take-le}
+use Rattle.std.proofs.lemmas.List.{take-append-drop, take-append-le, drop-take}
+use Rattle.std.proofs.lemmas.List.{drop-drop, length-drop, length-take-le}
 use Rattle.std.specs.Prelude.{slice_range}
 use borrow.Rule.Slice.PartMut.{put_mid, post_of}
 

@@ -1,5 +1,6 @@
 -- What a reader keeps from call to call: two calls, one after the other, keep what each keeps.
-use Rattle.std.proofs.Common.{◌≡◌, ℕ, ◌+◌, ◌-◌, ◌≤◌, List, length, drop, refl, ap, ◌∙◌, subst, arith, length-drop}
+use Rattle.std.proofs.Common.{◌≡◌, ℕ, ◌+◌, ◌-◌, ◌≤◌, List, length, drop}
+use Rattle.std.proofs.Common.{refl, ap, ◌∙◌, subst, arith, length-drop}
 use Rattle.std.proofs.lemmas.List.{drop-drop}
 use Rattle.std.specs.Prelude.{None, Some}
 use Rattle.std.specs.declared.option.Option.{Option}
@@ -21,7 +22,8 @@ Takes-append (Some bytes) (Some rest) None first second before after = absurd af
 Takes-append (Some bytes) (Some rest) (Some last) first second before after =
     let left : length rest ≡ length bytes - first =
     ap length before.1 ∙ length-drop first bytes in
-    (omega (arith, before.0, after.0), after.1 ∙ ap (drop second) before.1 ∙ drop-drop second first bytes)
+    let dropped = after.1 ∙ ap (drop second) before.1 ∙ drop-drop second first bytes in
+    (omega (arith, before.0, after.0), dropped)
 
 -- a reader that was not asked stands where it stood
 pub ReadsOn-same : {S : Type 0} (bytes_left : S → Option (List ℕ)) (loan : S → Option GName)

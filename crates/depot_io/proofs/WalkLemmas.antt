@@ -1,6 +1,7 @@
 -- What a walk along a line tells of the bytes that were left before it.
 use Rattle.std.proofs.Common.{◌≡◌, ◌≢◌, ℕ, ◌+◌, ◌-◌, ◌≤◌, ◌<◌, min, List, [], ◌∷◌, ◌++◌, length}
-use Rattle.std.proofs.Common.{None, Some, IfSome, Ok, Err, ap, ◌∙◌, sym, arith, append-nil, append_assoc, length-append}
+use Rattle.std.proofs.Common.{None, Some, IfSome, Ok, Err, ap, ◌∙◌, sym, arith}
+use Rattle.std.proofs.Common.{append-nil, append_assoc, length-append}
 use Rattle.std.specs.declared.option.Option.{Option}
 use Rattle.std.specs.Io.BufRead.{first_line, strip_last}
 use Rattle.depot_io.specs.declared.line_reader.Line.TheVariants.{Text}

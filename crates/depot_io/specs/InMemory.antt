@@ -1,5 +1,6 @@
 -- The sources and the sink in memory: what they keep, and what a call does to it.
-use Rattle.std.specs.Prelude.{◌≡◌, ℕ, ◌-◌, ◌<◌, ◌⊎◌, ◌↔◌, min, List, [], ◌∷◌, ◌++◌, length, drop, Contains, Result, Ok, Err, IsErr, IfOk, None, Some}
+use Rattle.std.specs.Prelude.{◌≡◌, ℕ, ◌-◌, ◌<◌, ◌⊎◌, ◌↔◌, min, List, [], ◌∷◌, ◌++◌, length}
+use Rattle.std.specs.Prelude.{drop, Contains, Result, Ok, Err, IsErr, IfOk, None, Some}
 use Rattle.std.specs.declared.option.Option.{Option}
 use Rattle.depot_io.specs.Causes.{next_count}
 

@@ -10,7 +10,8 @@ use Rattle.depot_io.specs.Causes.{Rose}
 use Rattle.depot_io.specs.declared.line_reader.Line.{Line}
 use Rattle.depot_io.specs.declared.line_reader.Line.TheVariants.{Text, End}
 use Rattle.depot_io.specs.declared.line_reader.LineFault.{LineFault}
-use Rattle.depot_io.specs.declared.line_reader.LineFault.TheVariants.{ReadFault, LongLine, Long, Cut, Memory}
+use Rattle.depot_io.specs.declared.line_reader.LineFault.TheVariants.{ReadFault, LongLine}
+use Rattle.depot_io.specs.declared.line_reader.LineFault.TheVariants.{Long, Cut, Memory}
 use Rattle.depot_io.specs.declared.line_reader.Stop.{Stop}
 use Rattle.depot_io.specs.declared.line_reader.Stop.TheVariants.{Newline, Dry, Full}
 use Rattle.depot_io.specs.declared.source.Failed.{Failed}

@@ -4,7 +4,8 @@
 //! the last one may end with the input instead, and is then taken as it stands. A body is as many
 //! bytes as its reader asks for. A reader takes at most 1,099,511,627,776 bytes in all.
 ghost use Rattle.std.specs.Prelude.{◌≡◌, ◌+◌, ◌^◌, ◌≤◌, ◌<◌, [], length, Ok, Err};
-ghost use Rattle.std.specs.Prelude.{IfOk, OnErr, IfErr, IfSome, IfNone, vec_capacity, option_to_list};
+ghost use Rattle.std.specs.Prelude.{IfOk, OnErr, IfErr, IfSome, IfNone};
+ghost use Rattle.std.specs.Prelude.{vec_capacity, option_to_list};
 ghost use Rattle.std.specs.Io.BufRead.{strip_last};
 ghost use Rattle.std.specs.Io.KnownBytes.{Consumes, Keeps, IsAtEnd};
 ghost use Rattle.depot_io.specs.Causes.{HasCause};

@@ -3,7 +3,8 @@ use Rattle.std.proofs.Common.{◌<◌, length, arith}
 use Rattle.std.proofs.lemmas.Bool.Decides.{nat_tests}
 use Rattle.depot_io.proofs.WalkLemmas.{walk-fault, walk-long, walk-full, walk-newline, walk-dry}
 use Rattle.depot_io.proofs.line_reader.LineReader.next_line.Goals as goal
-use Rattle.depot_io.proofs.line_reader.LineReader.next_line.Goals.{in-Newline, in-Dry+else-is_empty}
+use Rattle.depot_io.proofs.line_reader.LineReader.next_line.Goals.{in-Newline}
+use Rattle.depot_io.proofs.line_reader.LineReader.next_line.Goals.{in-Dry+else-is_empty}
 
 pub returns-in_default-clause-exact : goal.returns-in_default-clause-exact
 returns-in_default-clause-exact g c =
