@@ -114,7 +114,7 @@ fn source_parts(desc: &Desc, width: Width, part: u64, src: Src) -> Parts
 
 /// The table with this number.
 fn table_at(desc: &Desc, table: u16) -> Option<&Table>
-    ensures { option_copied result ≡ slice_get desc.now.tables table }
+    ensures exact { option_copied result ≡ slice_get desc.now.tables table }
 {
     desc.tables.get(usize::from(table))
 }
@@ -141,7 +141,7 @@ fn push_rows(
 
 /// Whether a delivery has a row in the partition.
 fn touches(table: &Table, key: Key, delivery: &Delivery) -> bool
-    ensures { result ≡ list_any (lies_in_table table.now key) delivery.now.rows }
+    ensures exact { result ≡ list_any (lies_in_table table.now key) delivery.now.rows }
 {
     delivery
         .rows
@@ -151,7 +151,7 @@ fn touches(table: &Table, key: Key, delivery: &Delivery) -> bool
 
 /// Whether a row lies in the partition of the key, which is one of this table.
 fn lies_in_table(table: &Table, key: Key, row: &DRow) -> bool
-    ensures { result ≡ lies_in_table table.now key row.now }
+    ensures exact { result ≡ lies_in_table table.now key row.now }
 {
     row.table == key.table
         && match row_tick(&table.kind, &row.cells) {
@@ -162,7 +162,7 @@ fn lies_in_table(table: &Table, key: Key, row: &DRow) -> bool
 
 /// The tick of a row of a raw table. A row of a view has none.
 pub(crate) fn row_tick(kind: &Kind, row: &Row) -> Option<u64>
-    ensures { result ≡ row_tick (kind_of kind.now) row.now }
+    ensures exact { result ≡ row_tick (kind_of kind.now) row.now }
 {
     match kind {
         Kind::Raw { time, .. } => tick_at(row.cells(), usize::from(*time)),
@@ -172,7 +172,7 @@ pub(crate) fn row_tick(kind: &Kind, row: &Row) -> Option<u64>
 
 /// The tick that the cell of the time column holds: an int that is not below 0.
 fn tick_at(cells: &[Cell], time: usize) -> Option<u64>
-    ensures { result ≡ tick_of (slice_get cells.now time) }
+    ensures exact { result ≡ tick_of (slice_get cells.now time) }
 {
     match cells.get(time) {
         Some(Cell::Int(tick)) => u64::try_from(*tick).ok(),
@@ -183,7 +183,7 @@ fn tick_at(cells: &[Cell], time: usize) -> Option<u64>
 
 /// Whether a partition covers a tick.
 fn covers(width: Width, part: u64, tick: u64) -> bool
-    ensures { result ≡ is_covered width part tick }
+    ensures exact { result ≡ is_covered width part tick }
 {
     tick < END && tick / width.ticks() == part
 }

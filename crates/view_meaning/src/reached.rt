@@ -42,14 +42,14 @@ pub fn reached_keys(alloc: Global, desc: &Desc, deliveries: &[Delivery]) -> Resu
 /// The table with a number.
 fn table_at(desc: &Desc, number: usize) -> &Table
     requires { number < length desc.now.tables }
-    ensures { slice_get desc.now.tables number ≡ Some result.now }
+    ensures exact { slice_get desc.now.tables number ≡ Some result.now }
 {
     &desc.tables[number]
 }
 
 /// Puts a list at the end.
 fn push_list(lists: &mut Vec<Vec<u64>>, parts: Vec<u64>) -> Result<(), Memory>
-    ensures len { OnOk result (vec_len lists.new ≡ vec_len lists.old + 1) }
+    ensures gained { OnOk result (vec_len lists.new ≡ vec_len lists.old + 1) }
     ensures ok { OnOk result
         (lists_of lists.new.items ≡ lists_of lists.old.items ++ parts.items ∷ []) }
 {
@@ -94,7 +94,7 @@ fn empty_lists(alloc: Global, count: usize) -> Result<Vec<Vec<u64>>, Memory>
 /// Puts the number of the partition that each row lies in at the end of those of its table.
 fn push_rows(desc: &Desc, rows: &[DRow], lists: &mut Vec<Vec<u64>>) -> Result<(), Memory>
     requires { vec_len lists.old ≡ length desc.now.tables }
-    ensures each { vec_len lists.new ≡ vec_len lists.old }
+    ensures kept { vec_len lists.new ≡ vec_len lists.old }
     ensures ok { OnOk result (AllGain (takes_any desc.now rows.now)
         (lists_of lists.old.items) (lists_of lists.new.items)) }
 {
@@ -107,7 +107,7 @@ fn push_rows(desc: &Desc, rows: &[DRow], lists: &mut Vec<Vec<u64>>) -> Result<()
 /// Puts the number of the partition that a row lies in at the end of those of its table.
 fn push_row(desc: &Desc, row: &DRow, lists: &mut Vec<Vec<u64>>) -> Result<(), Memory>
     requires { vec_len lists.old ≡ length desc.now.tables }
-    ensures each { vec_len lists.new ≡ vec_len lists.old }
+    ensures kept { vec_len lists.new ≡ vec_len lists.old }
     ensures ok { OnOk result (AllGain (takes desc.now row.now)
         (lists_of lists.old.items) (lists_of lists.new.items)) }
 {
@@ -120,7 +120,7 @@ fn push_row(desc: &Desc, row: &DRow, lists: &mut Vec<Vec<u64>>) -> Result<(), Me
 /// Puts a number at the end of those of a table.
 fn push_part(lists: &mut Vec<Vec<u64>>, table: usize, part: u64) -> Result<(), Memory>
     requires { table < vec_len lists.old }
-    ensures each { vec_len lists.new ≡ vec_len lists.old }
+    ensures kept { vec_len lists.new ≡ vec_len lists.old }
     ensures ok { OnOk result (lists_of lists.new.items ≡ slice_set (lists_of lists.old.items) table
         (parts_at (lists_of lists.old.items) table ++ part ∷ [])) }
 {
@@ -132,9 +132,9 @@ fn push_part(lists: &mut Vec<Vec<u64>>, table: usize, part: u64) -> Result<(), M
 
 /// The number of the partition that a row lies in, if there is one.
 fn part_of(desc: &Desc, row: &DRow) -> Option<u64>
-    ensures lies { (part : ℕ) → has (option_to_list result) part
+    ensures exact { (part : ℕ) → has (option_to_list result) part
         ≡ lies_in desc.now (key_of row.now.table part) row.now }
-    ensures there { IsSome result → row.now.table < length desc.now.tables }
+    ensures within { IsSome result → row.now.table < length desc.now.tables }
 {
     let table = desc.tables.get(usize::from(row.table))?;
     covering_part(table.width, row_tick(&table.kind, &row.cells)?)
@@ -142,7 +142,7 @@ fn part_of(desc: &Desc, row: &DRow) -> Option<u64>
 
 /// The number of the partition that covers a tick, if there is one.
 fn covering_part(width: Width, tick: u64) -> Option<u64>
-    ensures { (part : ℕ) → has (option_to_list result) part ≡ is_covered width part tick }
+    ensures exact { (part : ℕ) → has (option_to_list result) part ≡ is_covered width part tick }
 {
     if tick < END {
         Some(tick / width.ticks())
@@ -206,7 +206,7 @@ fn push_readers(
 /// The numbers listed for a table.
 fn parts_of(lists: &[Vec<u64>], table: u16) -> &[u64]
     requires { table < length lists.now }
-    ensures { result.now ≡ parts_at (lists_of lists.now) table }
+    ensures exact { result.now ≡ parts_at (lists_of lists.now) table }
 {
     &lists[usize::from(table)]
 }
@@ -214,8 +214,8 @@ fn parts_of(lists: &[Vec<u64>], table: u16) -> &[u64]
 /// How many ticks a partition of a table covers.
 fn ticks_of(desc: &Desc, table: u16) -> u64
     requires { table < length desc.now.tables }
-    ensures value { result ≡ table_width desc.now table }
-    ensures some { 1 ≤ table_width desc.now table }
+    ensures exact { result ≡ table_width desc.now table }
+    ensures within { 1 ≤ table_width desc.now table }
 {
     desc.tables[usize::from(table)].width.ticks()
 }

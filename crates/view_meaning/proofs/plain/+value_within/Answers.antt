@@ -11,7 +11,7 @@ returns-in-Raw t c =
     let raw : is_raw_kind c.in-Some.table.now.kind ≡ true =
     rw (← c.table.view_is, c.in-Raw.is) refl in
     let same = value_within-raw c.args.desc.now c.args.accepted.now c.args.depth c.args.key
-    c.in-Some.table.now (omega arith) (sym c.in-Some.ensures) raw in
+    c.in-Some.table.now (omega arith) (sym c.in-Some.ensures.exact) raw in
     record { exact = rw same c.raw_rows.ensures.exact }
 
 pub loop-part-preserved : goal.loop-part-preserved
@@ -40,5 +40,5 @@ returns-after-loop-part t c =
     let value = value_within-filter c.args.desc.now c.args.accepted.now c.args.depth c.args.key
     c.in-Some.table.now c.in-Filter.src c.in-Filter.conds.items c.in-Filter.keep.items
     c.source_parts-read.result.first c.source_parts-read.result.count (omega arith)
-    (sym c.in-Some.ensures) kind (rw width at c.source_parts-read.ensures.exact) in
+    (sym c.in-Some.ensures.exact) kind (rw width at c.source_parts-read.ensures.exact) in
     record { exact = cc }

@@ -18,11 +18,11 @@ pub push_above-requires-clause-earlier : goal.push_above-requires-clause-earlier
 push_above-requires-clause-earlier c =
     let number : length c.deref.result.now ≡ c.len-number.result = omega arith in
     rw number (c.requires.earlier c.len-number.result c.table_at-table.result.now
-    c.table_at-table.ensures)
+    c.table_at-table.ensures.exact)
 
 pub push_above-requires-clause-aligned : goal.push_above-requires-clause-aligned
 push_above-requires-clause-aligned c =
-    c.requires.aligned c.len-number.result c.table_at-table.result.now c.table_at-table.ensures
+    c.requires.aligned c.len-number.result c.table_at-table.result.now c.table_at-table.ensures.exact
 
 pub loop-parts-preserved : goal.loop-parts-preserved
 loop-parts-preserved c =
@@ -36,7 +36,7 @@ loop-parts-preserved c =
     record {
       each = omega (
         arith,
-        c.in_ok-push_list.ensures.len,
+        c.in_ok-push_list.ensures.gained,
         length-append c.loop-parts.yielded (c.in-Some.parts ∷ []),
       );
       up_to = rw (
@@ -49,7 +49,7 @@ loop-parts-preserved c =
           c.in-Some.parts c.push_above.new.parts.items c.sort_parts.new.parts.items
           c.requires.earlier c.requires.aligned
           record {
-            there = c.table_at-table.ensures;
+            there = c.table_at-table.ensures.exact;
             last = omega (arith, c.loop-parts.reached.ok.0);
             within = (rw (← yielded) at turn).0;
             read = (rw (← yielded) at turn).1;
