@@ -1,7 +1,9 @@
 -- The content of a version against the value from scratch: `settled_values`. Content, value and
 -- settledness go down through the tables alike, so they are compared within one depth.
-use Rattle.std.proofs.Common.{◌≡◌, ◌∙◌, ℕ, zero, suc, ◌+◌, List, [], ◌∷◌, ◌++◌, length, take, get_or, refl, sym, ap, map, inl, inr, arith}
-use Rattle.std.specs.Prelude.{true, false, not, Option, Some, None, All, flat_map, slice_get, if◌then◌else◌}
+use Rattle.std.proofs.Common.{◌≡◌, ◌∙◌, ℕ, zero, suc, ◌+◌, List, [], ◌∷◌, ◌++◌, length, take}
+use Rattle.std.proofs.Common.{get_or, refl, sym, ap, map, inl, inr, arith}
+use Rattle.std.specs.Prelude.{true, false, not, Option, Some, None, All, flat_map, slice_get}
+use Rattle.std.specs.Prelude.{if◌then◌else◌}
 use Rattle.std.specs.List.{list_all}
 use Rattle.std.specs.Cmp.Lexicographic.{same_text}
 use Rattle.std.proofs.lemmas.Bool.{cases_Bool, and_parts, not-true, not-false}
@@ -24,11 +26,16 @@ use Rattle.view_meaning.specs.RawValues.{lies_in, raw_value}
 use Rattle.view_meaning.specs.TableRows.{cells_where}
 use Rattle.view_meaning.specs.SetAside.{kept_rows, kept_after}
 use Rattle.view_meaning.specs.Operations.{operation, filtered}
-use Rattle.view_meaning.specs.Versions.{touches, loads_after, raw_version, is_raw, is_raw_kind, version, install_places, last_place, current, recorded}
+use Rattle.view_meaning.specs.Versions.{touches, loads_after, raw_version, is_raw, is_raw_kind}
+use Rattle.view_meaning.specs.Versions.{version, install_places, last_place, current, recorded}
 use Rattle.view_meaning.specs.Values.{joined, value_over, value_within, value}
 use Rattle.view_meaning.specs.Staleness.{is_stale, is_settled_within}
-use Rattle.view_meaning.specs.Contents.{rows_kept, loads_kept, raw_content, install_content, view_content, content_over, content_within, HasSettledValues}
-use Rattle.view_meaning.proofs.ListLemmas.{flat_map-agree, All-map_agree, flat_map-none, All-from_flat_map, flat_map-cons_if, length-cons_if, filter-empty}
+use Rattle.view_meaning.specs.Contents.{rows_kept, loads_kept, raw_content, install_content}
+use Rattle.view_meaning.specs.Contents.{view_content, content_over, content_within}
+use Rattle.view_meaning.specs.Contents.{HasSettledValues}
+use Rattle.view_meaning.proofs.ListLemmas.{flat_map-agree, All-map_agree, flat_map-none}
+use Rattle.view_meaning.proofs.ListLemmas.{All-from_flat_map, flat_map-cons_if, length-cons_if}
+use Rattle.view_meaning.proofs.ListLemmas.{filter-empty}
 use Rattle.view_meaning.proofs.RawLemmas.{cells_where-append, version-raw}
 use Rattle.view_meaning.proofs.VersionLemmas.{last_place-none, nth_place-last, version-view}
 

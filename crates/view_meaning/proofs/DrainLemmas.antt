@@ -1,9 +1,11 @@
 -- A drain, install by install: each partition that it installs is stale and its sources are
 -- settled, and each partition that it has passed is settled.
-use Rattle.std.proofs.Common.{◌≡◌, ◌∙◌, ℕ, zero, suc, ◌<◌, ◌≤◌, List, [], ◌∷◌, ◌++◌, length, get_or, refl, sym, ap, subst, inl, inr, arith}
+use Rattle.std.proofs.Common.{◌≡◌, ◌∙◌, ℕ, zero, suc, ◌<◌, ◌≤◌, List, [], ◌∷◌, ◌++◌, length, get_or}
+use Rattle.std.proofs.Common.{refl, sym, ap, subst, inl, inr, arith}
 use Rattle.std.specs.Prelude.{Bool, true, false, not, ◌&&◌, ◌||◌, All, slice_get}
 use Rattle.std.specs.List.{AllPairs}
-use Rattle.std.proofs.lemmas.Bool.{cases_Bool, both_ways, true_from_ne_false, not-true, and_parts, or_parts, or_from, or_left, or_right}
+use Rattle.std.proofs.lemmas.Bool.{cases_Bool, both_ways, true_from_ne_false, not-true, and_parts}
+use Rattle.std.proofs.lemmas.Bool.{or_parts, or_from, or_left, or_right}
 use Rattle.std.proofs.lemmas.List.{append-nil, append_assoc}
 use Rattle.std.proofs.lemmas.List.Elements.{All-nil, All-cons, All-filter}
 use Rattle.std.proofs.lemmas.List.Folds.{list_any-append}
@@ -21,12 +23,17 @@ use Rattle.view_meaning.specs.Staleness.{is_stale, is_settled}
 use Rattle.view_meaning.specs.LegalJournals.{MayInstall, IsLegal}
 use Rattle.view_meaning.specs.Drains.{all_view_keys, unsettled, with_install, drained}
 use Rattle.view_meaning.proofs.ListLemmas.{AllPairs-front, AllPairs-after, AllPairs-before}
-use Rattle.view_meaning.proofs.AmongLemmas.{is_key, is_among, IsBefore, is_key-itself, is_key-same, is_among-after, is_among-before, is_among-earlier, All-is_among, IsBefore-table, IsBefore-le}
-use Rattle.view_meaning.proofs.KeyLemmas.{sources_of-parts, sources_of-none, AllPairs-all_view_keys, all_view_keys-not_raw, all_view_keys-parts}
+use Rattle.view_meaning.proofs.AmongLemmas.{is_key, is_among, IsBefore, is_key-itself, is_key-same}
+use Rattle.view_meaning.proofs.AmongLemmas.{is_among-after, is_among-before, is_among-earlier}
+use Rattle.view_meaning.proofs.AmongLemmas.{All-is_among, IsBefore-table, IsBefore-le}
+use Rattle.view_meaning.proofs.KeyLemmas.{sources_of-parts, sources_of-none, AllPairs-all_view_keys}
+use Rattle.view_meaning.proofs.KeyLemmas.{all_view_keys-not_raw, all_view_keys-parts}
 use Rattle.view_meaning.proofs.SourceLemmas.{sources_of-earlier}
 use Rattle.view_meaning.proofs.LegalLemmas.{IsLegal-push, MayInstall-last, last_place-le}
-use Rattle.view_meaning.proofs.SettledLemmas.{is_settled-sources, is_stale-settled, sources_of-settled, is_settled-no_sources}
-use Rattle.view_meaning.proofs.InstallLemmas.{with_installs, is_stale-with_installs, is_stale-among, is_stale-before, is_among-sources}
+use Rattle.view_meaning.proofs.SettledLemmas.{is_settled-sources, is_stale-settled}
+use Rattle.view_meaning.proofs.SettledLemmas.{sources_of-settled, is_settled-no_sources}
+use Rattle.view_meaning.proofs.InstallLemmas.{with_installs, is_stale-with_installs, is_stale-among}
+use Rattle.view_meaning.proofs.InstallLemmas.{is_stale-before, is_among-sources}
 
 -- a partition is among the unsettled ones where it is a view's and is not settled
 is_among-unsettled : (desc : DescOf) (journal : List Entry) (key : Key)

@@ -1,8 +1,10 @@
 -- The content of a version stays as the journal grows: `content_within-take`.
-use Rattle.std.proofs.Common.{◌≡◌, ◌∙◌, ℕ, zero, suc, ◌<◌, ◌≤◌, List, [], ◌∷◌, ◌++◌, length, take, drop, get_or, refl, sym, ap, inl, inr, arith}
+use Rattle.std.proofs.Common.{◌≡◌, ◌∙◌, ℕ, zero, suc, ◌<◌, ◌≤◌, List, [], ◌∷◌, ◌++◌, length, take}
+use Rattle.std.proofs.Common.{drop, get_or, refl, sym, ap, inl, inr, arith}
 use Rattle.std.specs.Prelude.{Option, Some, None, flat_map, slice_get, if◌then◌else◌}
 use Rattle.std.proofs.lemmas.Bool.{cases_Bool}
-use Rattle.std.proofs.lemmas.List.{append-nil, append_assoc, get_or_append_left, take-append-drop, take-append-le}
+use Rattle.std.proofs.lemmas.List.{append-nil, append_assoc, get_or_append_left, take-append-drop}
+use Rattle.std.proofs.lemmas.List.{take-append-le}
 use Rattle.depot_cell.specs.declared.cell.Cell.{Cell}
 use Rattle.table_desc.specs.declared.table.Key.{Key}
 use Rattle.table_desc.specs.Deliveries.{DeliveryOf}
@@ -12,10 +14,12 @@ use Rattle.view_meaning.specs.declared.journal.Entry.{Entry}
 use Rattle.view_meaning.specs.Partitions.{keys_below}
 use Rattle.view_meaning.specs.Journal.{accepted}
 use Rattle.view_meaning.specs.Operations.{operation}
-use Rattle.view_meaning.specs.Versions.{touches, raw_version, install_places, is_raw, is_raw_kind, version}
+use Rattle.view_meaning.specs.Versions.{touches, raw_version, install_places, is_raw, is_raw_kind}
+use Rattle.view_meaning.specs.Versions.{version}
 use Rattle.view_meaning.specs.Values.{joined}
 use Rattle.view_meaning.specs.LegalJournals.{IsLegal}
-use Rattle.view_meaning.specs.Contents.{rows_kept, loads_kept, raw_content, install_content, view_content, content_over, content_within}
+use Rattle.view_meaning.specs.Contents.{rows_kept, loads_kept, raw_content, install_content}
+use Rattle.view_meaning.specs.Contents.{view_content, content_over, content_within}
 use Rattle.view_meaning.proofs.ListLemmas.{append-cons_if}
 use Rattle.view_meaning.proofs.JournalLemmas.{accepted-append}
 use Rattle.view_meaning.proofs.RawLemmas.{version-raw}

@@ -1,6 +1,7 @@
 -- A journal with installs of some keys at its end, one by one: what they do to versions, and which
 -- partitions are not stale behind them.
-use Rattle.std.proofs.Common.{◌≡◌, ◌∙◌, ℕ, ◌+◌, ◌<◌, ◌≤◌, List, [], ◌∷◌, ◌++◌, length, get_or, take, refl, sym, ap, subst, inl, inr, arith}
+use Rattle.std.proofs.Common.{◌≡◌, ◌∙◌, ℕ, ◌+◌, ◌<◌, ◌≤◌, List, [], ◌∷◌, ◌++◌, length, get_or, take}
+use Rattle.std.proofs.Common.{refl, sym, ap, subst, inl, inr, arith}
 use Rattle.std.specs.Prelude.{true, false, All, fold, slice_get}
 use Rattle.std.specs.List.{AllPairs}
 use Rattle.std.proofs.lemmas.Bool.{cases_Bool, or_parts, false≢true, false_from_ne_true}
@@ -11,12 +12,16 @@ use Rattle.view_meaning.specs.declared.journal.Entry.{Entry}
 use Rattle.view_meaning.specs.declared.journal.Entry.TheVariants as entry
 use Rattle.view_meaning.specs.Partitions.{sources_of}
 use Rattle.view_meaning.specs.Journal.{accepted}
-use Rattle.view_meaning.specs.Versions.{install_places, is_raw, version, last_place, current, recorded}
+use Rattle.view_meaning.specs.Versions.{install_places, is_raw, version, last_place, current}
+use Rattle.view_meaning.specs.Versions.{recorded}
 use Rattle.view_meaning.specs.Staleness.{is_stale}
 use Rattle.view_meaning.specs.Drains.{with_install}
 use Rattle.view_meaning.proofs.ListLemmas.{map-agree, All-map_agree, AllPairs-head, AllPairs-tail}
-use Rattle.view_meaning.proofs.AmongLemmas.{is_key, is_among, IsBefore, is_key-same, is_among-after, is_among-earlier}
-use Rattle.view_meaning.proofs.VersionLemmas.{install_places-append, version-view, version-le, version-take-le, version-same, last_place-Install, recorded-same}
+use Rattle.view_meaning.proofs.AmongLemmas.{is_key, is_among, IsBefore, is_key-same, is_among-after}
+use Rattle.view_meaning.proofs.AmongLemmas.{is_among-earlier}
+use Rattle.view_meaning.proofs.VersionLemmas.{install_places-append, version-view, version-le}
+use Rattle.view_meaning.proofs.VersionLemmas.{version-take-le, version-same, last_place-Install}
+use Rattle.view_meaning.proofs.VersionLemmas.{recorded-same}
 use Rattle.view_meaning.proofs.SettledLemmas.{is_stale-current, recorded-current}
 
 -- a journal with installs of these keys, each of which counts all entries before it

@@ -1,10 +1,13 @@
 -- The keys of a description: the partitions of its views are in order, they are all that have
 -- sources, and each source is a partition.
-use Rattle.std.proofs.Common.{◌≡◌, ◌∙◌, ℕ, zero, suc, ◌+◌, ◌*◌, ◌<◌, ◌≤◌, List, [], length, get_or, refl, sym, ap, map, subst, inl, inr, arith}
-use Rattle.std.specs.Prelude.{Bool, true, false, ◌&&◌, ◌==◌, Option, Some, None, All, flat_map, slice_get, pos, ◌+ℤ◌, min, max}
+use Rattle.std.proofs.Common.{◌≡◌, ◌∙◌, ℕ, zero, suc, ◌+◌, ◌*◌, ◌<◌, ◌≤◌, List, [], length, get_or}
+use Rattle.std.proofs.Common.{refl, sym, ap, map, subst, inl, inr, arith}
+use Rattle.std.specs.Prelude.{Bool, true, false, ◌&&◌, ◌==◌, Option, Some, None, All, flat_map}
+use Rattle.std.specs.Prelude.{slice_get, pos, ◌+ℤ◌, min, max}
 use Rattle.std.specs.List.{AllPairs, list_any, range_with_len}
 use Rattle.std.proofs.Math.Nat.{mul-le-mul_left}
-use Rattle.std.proofs.lemmas.Bool.{cases_Bool, both_ways, false≢true, cond_both, eq-eqb, eqb-true, ltb-true, lt-ltb}
+use Rattle.std.proofs.lemmas.Bool.{cases_Bool, both_ways, false≢true, cond_both, eq-eqb, eqb-true}
+use Rattle.std.proofs.lemmas.Bool.{ltb-true, lt-ltb}
 use Rattle.std.proofs.lemmas.Map.Views.{any-filter_same}
 use Rattle.std.proofs.lemmas.Option.{slice_get_within}
 use Rattle.std.proofs.lemmas.List.Elements.{All-nil, All-map, filter_passes, All-weaker}
@@ -18,10 +21,14 @@ use Rattle.table_desc.specs.Tables.{TableOf}
 use Rattle.table_desc.specs.KindValues.{KindOf, Raw, Filter, Group, Join}
 use Rattle.table_desc.specs.Sources.{width_of, table_width, kind_sources}
 use Rattle.table_desc.specs.Time.{END}
-use Rattle.view_meaning.specs.Partitions.{start_of, end_of, is_met, parts_met, all_parts, is_part, tick_at_least, keys_read, keys_below, sources_of}
+use Rattle.view_meaning.specs.Partitions.{start_of, end_of, is_met, parts_met, all_parts, is_part}
+use Rattle.view_meaning.specs.Partitions.{tick_at_least, keys_read, keys_below, sources_of}
 use Rattle.view_meaning.specs.Versions.{is_raw, is_raw_kind}
 use Rattle.view_meaning.specs.Drains.{view_keys, all_view_keys}
-use Rattle.view_meaning.proofs.ListLemmas.{list_any-agree, list_any-map, list_any-flat_map, All-flat_map, All-range_with_len, list_any-range_with_len, AllPairs-append, AllPairs-map, AllPairs-range_with_len}
+use Rattle.view_meaning.proofs.ListLemmas.{list_any-agree, list_any-map, list_any-flat_map}
+use Rattle.view_meaning.proofs.ListLemmas.{All-flat_map, All-range_with_len}
+use Rattle.view_meaning.proofs.ListLemmas.{list_any-range_with_len, AllPairs-append, AllPairs-map}
+use Rattle.view_meaning.proofs.ListLemmas.{AllPairs-range_with_len}
 use Rattle.view_meaning.proofs.AmongLemmas.{is_key, is_among, IsBefore}
 
 -- what shares a tick with a span of time shares one with time

@@ -1,11 +1,14 @@
 -- Legal journals: they grow by one entry that may follow, and each install in them is of a view, has
 -- a place among their entries, and saw its sources settled.
-use Rattle.std.proofs.Common.{◌≡◌, ◌∙◌, ℕ, zero, suc, ◌≤◌, List, [], ◌∷◌, ◌++◌, length, take, sym, ap, subst, inl, inr, arith}
+use Rattle.std.proofs.Common.{◌≡◌, ◌∙◌, ℕ, zero, suc, ◌≤◌, List, [], ◌∷◌, ◌++◌, length, take, sym}
+use Rattle.std.proofs.Common.{ap, subst, inl, inr, arith}
 use Rattle.std.specs.Prelude.{true, false, All, fold, slice_get}
 use Rattle.std.specs.List.{list_all, list_any}
 use Rattle.std.proofs.lemmas.Bool.{both_ways, cases_Bool, false_from_ne_true}
-use Rattle.std.proofs.lemmas.List.{append-nil, append_assoc, length-append, take_all, take-append-le, drop_all}
-use Rattle.std.proofs.lemmas.List.Elements.{All-nil, All-cons, All-head, All-tail, All-weaker, All-append}
+use Rattle.std.proofs.lemmas.List.{append-nil, append_assoc, length-append, take_all}
+use Rattle.std.proofs.lemmas.List.{take-append-le, drop_all}
+use Rattle.std.proofs.lemmas.List.Elements.{All-nil, All-cons, All-head, All-tail, All-weaker}
+use Rattle.std.proofs.lemmas.List.Elements.{All-append}
 use Rattle.table_desc.specs.declared.table.Key.{Key}
 use Rattle.table_desc.specs.Descriptions.{DescOf}
 use Rattle.view_meaning.specs.declared.journal.Entry.{Entry}

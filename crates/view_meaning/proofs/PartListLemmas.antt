@@ -1,6 +1,7 @@
 -- Lists of partitions' numbers, one for each table, as the program that computes reached partitions
 -- fills them.
-use Rattle.std.proofs.Common.{◌≡◌, ◌∙◌, ℕ, ◌+◌, ◌*◌, ◌/◌, ◌<◌, ◌≤◌, List, [], ◌++◌, length, get_or, sym, ap, map, arith}
+use Rattle.std.proofs.Common.{◌≡◌, ◌∙◌, ℕ, ◌+◌, ◌*◌, ◌/◌, ◌<◌, ◌≤◌, List, [], ◌++◌, length, get_or}
+use Rattle.std.proofs.Common.{sym, ap, map, arith}
 use Rattle.std.specs.Prelude.{Bool, true, min, max, ◌||◌, ◌&&◌, nat_eq, nat_lt, nat_le, All, Vec}
 use Rattle.std.specs.declared.alloc.Global.{Global}
 use Rattle.std.proofs.lemmas.List.{get_or-map, length-map}
@@ -15,12 +16,15 @@ use Rattle.table_desc.specs.Deliveries.{DeliveryOf}
 use Rattle.table_desc.specs.Descriptions.{DescOf}
 use Rattle.table_desc.specs.Sources.{table_width, IsAligned}
 use Rattle.table_desc.specs.Time.{END}
-use Rattle.view_meaning.specs.Partitions.{start_of, end_of, is_met, parts_met, source_parts, keys_read}
+use Rattle.view_meaning.specs.Partitions.{start_of, end_of, is_met, parts_met, source_parts}
+use Rattle.view_meaning.specs.Partitions.{keys_read}
 use Rattle.view_meaning.specs.Reached.{brings}
-use Rattle.view_meaning.specs.PartLists.{AreBrought, AreInTime, Gains, has, is_listed, key_of, lists_of, parts_at}
+use Rattle.view_meaning.specs.PartLists.{AreBrought, AreInTime, Gains, has, is_listed, key_of}
+use Rattle.view_meaning.specs.PartLists.{lists_of, parts_at}
 use Rattle.view_meaning.proofs.ListLemmas.{list_any-agree, list_any-map}
 use Rattle.view_meaning.proofs.BoolLemmas.{same-answer}
-use Rattle.view_meaning.proofs.NumberLemmas.{has-Contains, has-filter, has-range_with_len, list_any-has}
+use Rattle.view_meaning.proofs.NumberLemmas.{has-Contains, has-filter, has-range_with_len}
+use Rattle.view_meaning.proofs.NumberLemmas.{list_any-has}
 use Rattle.view_meaning.proofs.PartitionLemmas.{is_met-div}
 
 -- there are as many lists as vectors

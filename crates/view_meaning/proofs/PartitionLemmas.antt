@@ -2,7 +2,9 @@
 use Rattle.std.proofs.Common.{◌≡◌, ◌∙◌, ℕ, ◌+◌, ◌-◌, ◌*◌, ◌/◌, ◌<◌, ◌≤◌, get_or, sym, ap, arith}
 use Rattle.std.specs.Prelude.{◌%◌, min, max, nat_eq, true, false}
 use Rattle.std.specs.List.{range_with_len}
-use Rattle.std.proofs.Math.Nat.{add-mul, one-mul, mul_assoc, lt_of_mul-lt-mul_right, div-eq_of_lt-le, mul-le-mul_right, div-mul-le_self, lt-div-mul-add, div-le_self}
+use Rattle.std.proofs.Math.Nat.{add-mul, one-mul, mul_assoc, lt_of_mul-lt-mul_right}
+use Rattle.std.proofs.Math.Nat.{div-eq_of_lt-le, mul-le-mul_right, div-mul-le_self, lt-div-mul-add}
+use Rattle.std.proofs.Math.Nat.{div-le_self}
 use Rattle.std.proofs.lemmas.Bool.{lt-ltb, le-ltb, ltb-true, eq-eqb, eqb-true}
 use Rattle.std.proofs.lemmas.Nat.{div-add-mod', le-div}
 use Rattle.table_desc.specs.Time.{IsWidth}

@@ -1,6 +1,7 @@
 -- The rows and the version of a raw table's partition, as deliveries are accepted one by one. For
 -- one delivery more take the lemmas on `append`, and in a loop over deliveries those with `more`.
-use Rattle.std.proofs.Common.{◌≡◌, ◌∙◌, ℕ, ◌+◌, ◌<◌, List, [], ◌∷◌, ◌++◌, length, take, get_or, refl, sym, ap, map}
+use Rattle.std.proofs.Common.{◌≡◌, ◌∙◌, ℕ, ◌+◌, ◌<◌, List, [], ◌∷◌, ◌++◌, length, take, get_or}
+use Rattle.std.proofs.Common.{refl, sym, ap, map}
 use Rattle.std.specs.Prelude.{Bool, Some, None, true, false, ◌==◌, filter, slice_get, if◌then◌else◌}
 use Rattle.std.specs.List.{list_any}
 use Rattle.std.proofs.lemmas.List.{append-nil, append_assoc, map-append, take_more}

@@ -1,8 +1,11 @@
 -- Which partitions deliveries reach: `is_reached-step` says it by the sources of a partition.
-use Rattle.std.proofs.Common.{◌≡◌, ◌∙◌, ℕ, suc, ◌+◌, ◌*◌, ◌<◌, List, [], get_or, map, refl, ap, arith}
-use Rattle.std.specs.Prelude.{Bool, true, false, ◌||◌, ◌==◌, Option, Some, None, All, max, min, nat_le, nat_lt, slice_get}
+use Rattle.std.proofs.Common.{◌≡◌, ◌∙◌, ℕ, suc, ◌+◌, ◌*◌, ◌<◌, List, [], get_or, map, refl, ap}
+use Rattle.std.proofs.Common.{arith}
+use Rattle.std.specs.Prelude.{Bool, true, false, ◌||◌, ◌==◌, Option, Some, None, All, max, min}
+use Rattle.std.specs.Prelude.{nat_le, nat_lt, slice_get}
 use Rattle.std.specs.List.{list_any}
-use Rattle.std.proofs.lemmas.Bool.{and_parts, and_right, both_ways, or_from, leb-true, ltb-false, ltb-true, false_from_ne_true, true_from_ne_false}
+use Rattle.std.proofs.lemmas.Bool.{and_parts, and_right, both_ways, or_from, leb-true, ltb-false}
+use Rattle.std.proofs.lemmas.Bool.{ltb-true, false_from_ne_true, true_from_ne_false}
 use Rattle.std.proofs.lemmas.List.Folds.{list_any_none}
 use Rattle.std.proofs.lemmas.List.Elements.{All-weaker}
 use Rattle.table_desc.specs.declared.table.Key.{Key}
@@ -11,9 +14,11 @@ use Rattle.table_desc.specs.declared.delivery.DRow.{DRow}
 use Rattle.table_desc.specs.Deliveries.{DeliveryOf}
 use Rattle.table_desc.specs.Descriptions.{DescOf}
 use Rattle.table_desc.specs.Tables.{TableOf}
-use Rattle.table_desc.specs.Sources.{HasAlignedSources, HasEarlierSources, kind_sources, table_width, width_of, IsAligned}
+use Rattle.table_desc.specs.Sources.{HasAlignedSources, HasEarlierSources, kind_sources}
+use Rattle.table_desc.specs.Sources.{table_width, width_of, IsAligned}
 use Rattle.table_desc.specs.Time.{END}
-use Rattle.view_meaning.specs.Partitions.{end_of, is_covered, is_met, is_part, keys_below, keys_read, sources_of, start_of}
+use Rattle.view_meaning.specs.Partitions.{end_of, is_covered, is_met, is_part, keys_below}
+use Rattle.view_meaning.specs.Partitions.{keys_read, sources_of, start_of}
 use Rattle.view_meaning.specs.Journal.{row_tick}
 use Rattle.view_meaning.specs.RawValues.{covers_tick, holds_cells, lies_in}
 use Rattle.view_meaning.specs.Reached.{brings, is_reached, is_reached_within}

@@ -1,7 +1,9 @@
 -- The lists of reached partitions' numbers, as the program that computes them makes one after the
 -- other, and the keys that it tells of them.
-use Rattle.std.proofs.Common.{◌≡◌, ◌∙◌, ℕ, ◌+◌, ◌<◌, List, [], ◌∷◌, ◌++◌, length, get_or, map, refl, ap, sym, arith, ⊎_elim}
-use Rattle.std.specs.Prelude.{Bool, true, false, ◌&&◌, ◌||◌, Option, Some, All, flat_map, max, min, slice_get, if◌then◌else◌, Vec}
+use Rattle.std.proofs.Common.{◌≡◌, ◌∙◌, ℕ, ◌+◌, ◌<◌, List, [], ◌∷◌, ◌++◌, length, get_or, map, refl}
+use Rattle.std.proofs.Common.{ap, sym, arith, ⊎_elim}
+use Rattle.std.specs.Prelude.{Bool, true, false, ◌&&◌, ◌||◌, Option, Some, All, flat_map, max, min}
+use Rattle.std.specs.Prelude.{slice_get, if◌then◌else◌, Vec}
 use Rattle.std.specs.List.{filter, list_any, range_with_len}
 use Rattle.std.specs.declared.alloc.Global.{Global}
 use Rattle.std.specs.List.Sorted.{IsStrictlyIncreasing}
@@ -17,12 +19,15 @@ use Rattle.table_desc.specs.Descriptions.{DescOf}
 use Rattle.table_desc.specs.Tables.{TableOf}
 use Rattle.table_desc.specs.Sources.{HasAlignedSources, HasEarlierSources, table_width, width_of}
 use Rattle.table_desc.specs.Time.{END}
-use Rattle.view_meaning.specs.Partitions.{all_parts, end_of, is_met, keys_below, sources_of, start_of}
+use Rattle.view_meaning.specs.Partitions.{all_parts, end_of, is_met, keys_below, sources_of}
+use Rattle.view_meaning.specs.Partitions.{start_of}
 use Rattle.view_meaning.specs.Versions.{is_raw_kind}
 use Rattle.view_meaning.specs.Drains.{view_keys}
 use Rattle.view_meaning.specs.Reached.{brings, is_reached, reached}
-use Rattle.view_meaning.specs.PartLists.{AllReached, AreBrought, AreInTime, AreUpTo, Gains, has, is_listed, key_of, keys_of_view, lists_of, reached_of}
-use Rattle.view_meaning.proofs.ListLemmas.{list_any-agree, range_with_len-append, filter-map, filter-flat_map}
+use Rattle.view_meaning.specs.PartLists.{AllReached, AreBrought, AreInTime, AreUpTo, Gains, has}
+use Rattle.view_meaning.specs.PartLists.{is_listed, key_of, keys_of_view, lists_of, reached_of}
+use Rattle.view_meaning.proofs.ListLemmas.{list_any-agree, range_with_len-append, filter-map}
+use Rattle.view_meaning.proofs.ListLemmas.{filter-flat_map}
 use Rattle.view_meaning.proofs.BoolLemmas.{same-answer}
 use Rattle.view_meaning.proofs.KeyLemmas.{AllPairs-all_parts}
 use Rattle.view_meaning.proofs.NumberLemmas.{has-filter, rising-same}

@@ -1,7 +1,9 @@
 -- What loads at the end of a journal leave unsettled: where all was settled before, just the
 -- partitions of views that they reach.
-use Rattle.std.proofs.Common.{◌≡◌, ◌∙◌, ℕ, zero, suc, ◌+◌, ◌<◌, ◌≤◌, List, [], ◌∷◌, ◌++◌, length, get_or, map, refl, ap, sym, inl, inr, arith}
-use Rattle.std.specs.Prelude.{Bool, true, false, not, ◌&&◌, ◌||◌, ◌==◌, Option, Some, None, All, nat_eq, slice_get, if◌then◌else◌}
+use Rattle.std.proofs.Common.{◌≡◌, ◌∙◌, ℕ, zero, suc, ◌+◌, ◌<◌, ◌≤◌, List, [], ◌∷◌, ◌++◌, length}
+use Rattle.std.proofs.Common.{get_or, map, refl, ap, sym, inl, inr, arith}
+use Rattle.std.specs.Prelude.{Bool, true, false, not, ◌&&◌, ◌||◌, ◌==◌, Option, Some, None, All}
+use Rattle.std.specs.Prelude.{nat_eq, slice_get, if◌then◌else◌}
 use Rattle.std.specs.List.{list_all, list_any}
 use Rattle.std.specs.Cmp.Lexicographic.{pointwise}
 use Rattle.std.proofs.lemmas.Bool.{and_right, cases_Bool, eq-eqb, ne_eqb, false≢true}
@@ -20,20 +22,24 @@ use Rattle.table_desc.specs.Sources.{HasEarlierSources}
 use Rattle.view_meaning.specs.Partitions.{is_part, sources_of}
 use Rattle.view_meaning.specs.Journal.{accepted, row_tick}
 use Rattle.view_meaning.specs.RawValues.{covers_tick, holds_cells, lies_in}
-use Rattle.view_meaning.specs.Versions.{install_places, is_raw, is_raw_kind, raw_version, version, current, recorded}
+use Rattle.view_meaning.specs.Versions.{install_places, is_raw, is_raw_kind, raw_version, version}
+use Rattle.view_meaning.specs.Versions.{current, recorded}
 use Rattle.view_meaning.specs.Staleness.{is_stale, is_settled}
 use Rattle.view_meaning.specs.LegalJournals.{IsLegal}
 use Rattle.view_meaning.specs.Drains.{all_view_keys, unsettled}
 use Rattle.view_meaning.specs.Reached.{brings, is_reached, reached}
-use Rattle.view_meaning.proofs.ListLemmas.{list_all-agree, list_all-not, list_all-and, pointwise-map, filter-agree}
+use Rattle.view_meaning.proofs.ListLemmas.{list_all-agree, list_all-not, list_all-and}
+use Rattle.view_meaning.proofs.ListLemmas.{pointwise-map, filter-agree}
 use Rattle.view_meaning.proofs.JournalLemmas.{accepted-append, accepted-map-Load}
-use Rattle.view_meaning.proofs.KeyLemmas.{all_view_keys-not_raw, all_view_keys-parts, sources_of-parts}
+use Rattle.view_meaning.proofs.KeyLemmas.{all_view_keys-not_raw, all_view_keys-parts}
+use Rattle.view_meaning.proofs.KeyLemmas.{sources_of-parts}
 use Rattle.view_meaning.proofs.LegalLemmas.{last_place-le}
 use Rattle.view_meaning.proofs.RawLemmas.{raw_version-push, version-raw}
 use Rattle.view_meaning.proofs.ReachedLemmas.{brings-none, is_reached-step}
 use Rattle.view_meaning.proofs.SettledLemmas.{is_settled-step, is_stale-settled, recorded-current}
 use Rattle.view_meaning.proofs.SourceLemmas.{sources_of-earlier}
-use Rattle.view_meaning.proofs.VersionLemmas.{install_places-same, raw_version-le, recorded-same, version-view}
+use Rattle.view_meaning.proofs.VersionLemmas.{install_places-same, raw_version-le, recorded-same}
+use Rattle.view_meaning.proofs.VersionLemmas.{version-view}
 
 -- a journal with these deliveries loaded at its end
 abbrev with_loads : List Entry → List DeliveryOf → List Entry

@@ -1,9 +1,11 @@
 -- The versions of a partition as its journal grows: they never fall, and they stay where nothing is
 -- loaded and the partition is not installed.
-use Rattle.std.proofs.Common.{◌≡◌, ◌∙◌, ℕ, ◌≤◌, List, [], ◌∷◌, ◌++◌, length, take, drop, get_or, refl, sym, ap, map, subst, inl, inr, arith}
+use Rattle.std.proofs.Common.{◌≡◌, ◌∙◌, ℕ, ◌≤◌, List, [], ◌∷◌, ◌++◌, length, take, drop, get_or}
+use Rattle.std.proofs.Common.{refl, sym, ap, map, subst, inl, inr, arith}
 use Rattle.std.specs.Prelude.{true, false, filter, fold, slice_get, if◌then◌else◌}
 use Rattle.std.proofs.lemmas.Bool.{cases_Bool}
-use Rattle.std.proofs.lemmas.List.{append-nil, map-append, length-append, take-append-drop, take-append-le}
+use Rattle.std.proofs.lemmas.List.{append-nil, map-append, length-append, take-append-drop}
+use Rattle.std.proofs.lemmas.List.{take-append-le}
 use Rattle.std.proofs.lemmas.List.Elements.{filter-append}
 use Rattle.std.proofs.lemmas.List.Sums.{fold-append}
 use Rattle.table_desc.specs.declared.table.Key.{Key}
@@ -12,7 +14,9 @@ use Rattle.table_desc.specs.Descriptions.{DescOf}
 use Rattle.view_meaning.specs.declared.journal.Entry.{Entry}
 use Rattle.view_meaning.specs.declared.journal.Entry.TheVariants as entry
 use Rattle.view_meaning.specs.Journal.{accepted}
-use Rattle.view_meaning.specs.Versions.{loads_after, raw_version, installs, place_of, install_places, is_raw, version, nth_place, last_place, current, recorded}
+use Rattle.view_meaning.specs.Versions.{loads_after, raw_version, installs, place_of}
+use Rattle.view_meaning.specs.Versions.{install_places, is_raw, version, nth_place, last_place}
+use Rattle.view_meaning.specs.Versions.{current, recorded}
 use Rattle.view_meaning.proofs.ListLemmas.{get_or-last}
 use Rattle.view_meaning.proofs.JournalLemmas.{accepted-append}
 

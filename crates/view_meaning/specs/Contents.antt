@@ -1,5 +1,6 @@
 -- What the rows of a version are, by the versions that it was made of.
-use Rattle.std.specs.Prelude.{ℕ, zero, suc, ◌≡◌, List, [], ◌∷◌, ◌++◌, Option, Some, None, true, map, filter, flat_map, take, slice_get, if◌then◌else◌}
+use Rattle.std.specs.Prelude.{ℕ, zero, suc, ◌≡◌, List, [], ◌∷◌, ◌++◌, Option, Some, None, true, map}
+use Rattle.std.specs.Prelude.{filter, flat_map, take, slice_get, if◌then◌else◌}
 use Rattle.depot_cell.specs.declared.cell.Cell.{Cell}
 use Rattle.table_desc.specs.declared.table.Key.{Key}
 use Rattle.table_desc.specs.declared.delivery.DRow.{DRow}

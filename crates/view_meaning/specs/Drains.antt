@@ -1,5 +1,6 @@
 -- What a drain does: it installs each partition of a view that is not settled.
-use Rattle.std.specs.Prelude.{ℕ, ◌≡◌, List, [], ◌∷◌, ◌++◌, Option, Some, None, true, not, fold, filter, flat_map, map, length, slice_get, if◌then◌else◌}
+use Rattle.std.specs.Prelude.{ℕ, ◌≡◌, List, [], ◌∷◌, ◌++◌, Option, Some, None, true, not, fold}
+use Rattle.std.specs.Prelude.{filter, flat_map, map, length, slice_get, if◌then◌else◌}
 use Rattle.std.specs.List.{range_with_len}
 use Rattle.table_desc.specs.declared.table.Key.{Key}
 use Rattle.table_desc.specs.Descriptions.{DescOf}

@@ -1,5 +1,6 @@
 -- Journals: what was accepted, in order, and what of it fits a description.
-use Rattle.std.specs.Prelude.{ℕ, ◌<◌, ◌≤◌, ◌≡◌, ◌^◌, ◌==◌, ◌&&◌, Bool, List, Option, Some, None, IsSomeAnd, slice_get, pos, negsuc, length, ⊤, All, filter_map}
+use Rattle.std.specs.Prelude.{ℕ, ◌<◌, ◌≤◌, ◌≡◌, ◌^◌, ◌==◌, ◌&&◌, Bool, List, Option, Some, None}
+use Rattle.std.specs.Prelude.{IsSomeAnd, slice_get, pos, negsuc, length, ⊤, All, filter_map}
 use Rattle.std.specs.List.{AllZip, AllAdjacentBelow, list_any}
 use Rattle.depot_cell.specs.declared.cell.Cell.{Cell}
 use Rattle.depot_cell.specs.declared.cell.Cell.TheVariants as cell

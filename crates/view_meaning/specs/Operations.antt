@@ -1,5 +1,6 @@
 -- What a view makes of the rows of its sources.
-use Rattle.std.specs.Prelude.{ℕ, List, [], Option, Some, None, Bool, false, map, filter, filter_map, slice_get}
+use Rattle.std.specs.Prelude.{ℕ, List, [], Option, Some, None, Bool, false, map, filter, filter_map}
+use Rattle.std.specs.Prelude.{slice_get}
 use Rattle.std.specs.List.{list_all}
 use Rattle.depot_cell.specs.declared.cell.Cell.{Cell}
 use Rattle.depot_cell.specs.Cells.{cell_cmp, passes}

@@ -1,6 +1,7 @@
 -- Lists of partitions' numbers, one for each table, as the program that computes reached partitions
 -- keeps them.
-use Rattle.std.specs.Prelude.{ℕ, ◌≡◌, ◌<◌, ◌||◌, Bool, true, List, [], map, filter, flat_map, length, slice_get, slice_index_or, nat_eq, if◌then◌else◌, Vec}
+use Rattle.std.specs.Prelude.{ℕ, ◌≡◌, ◌<◌, ◌||◌, Bool, true, List, [], map, filter, flat_map}
+use Rattle.std.specs.Prelude.{length, slice_get, slice_index_or, nat_eq, if◌then◌else◌, Vec}
 use Rattle.std.specs.List.{list_any, range_with_len}
 use Rattle.std.specs.declared.alloc.Global.{Global}
 use Rattle.table_desc.specs.declared.table.Key.{Key}

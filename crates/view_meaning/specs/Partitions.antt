@@ -1,6 +1,7 @@
 -- Partitions of time: which ticks one covers, which partitions meet a span of ticks, and which
 -- are the sources of a view's partition. All of it is said by ticks; nothing here divides.
-use Rattle.std.specs.Prelude.{ℕ, ℤ, pos, negsuc, ◌+◌, ◌*◌, ◌+ℤ◌, min, max, Bool, nat_lt, nat_le, ◌&&◌, List, [], Option, Some, None, slice_get, map, flat_map}
+use Rattle.std.specs.Prelude.{ℕ, ℤ, pos, negsuc, ◌+◌, ◌*◌, ◌+ℤ◌, min, max, Bool, nat_lt, nat_le}
+use Rattle.std.specs.Prelude.{◌&&◌, List, [], Option, Some, None, slice_get, map, flat_map}
 use Rattle.std.specs.List.{filter, range_with_len}
 use Rattle.table_desc.specs.declared.table.Key.{Key}
 use Rattle.table_desc.specs.declared.time.Span.{Span}

@@ -1,5 +1,6 @@
 -- The rows of a raw table's partition.
-use Rattle.std.specs.Prelude.{ℕ, List, Option, Some, None, Bool, false, ◌&&◌, ◌==◌, map, filter, slice_get}
+use Rattle.std.specs.Prelude.{ℕ, List, Option, Some, None, Bool, false, ◌&&◌, ◌==◌, map, filter}
+use Rattle.std.specs.Prelude.{slice_get}
 use Rattle.depot_cell.specs.declared.cell.Cell.{Cell}
 use Rattle.table_desc.specs.declared.table.Key.{Key}
 use Rattle.table_desc.specs.declared.delivery.DRow.{DRow}

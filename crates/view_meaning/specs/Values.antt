@@ -1,5 +1,6 @@
 -- The value from scratch: what a partition's rows are by the accepted deliveries alone.
-use Rattle.std.specs.Prelude.{ℕ, zero, suc, List, [], Option, Some, None, flat_map, slice_get, if◌then◌else◌}
+use Rattle.std.specs.Prelude.{ℕ, zero, suc, List, [], Option, Some, None, flat_map, slice_get}
+use Rattle.std.specs.Prelude.{if◌then◌else◌}
 use Rattle.depot_cell.specs.declared.cell.Cell.{Cell}
 use Rattle.table_desc.specs.declared.table.Key.{Key}
 use Rattle.table_desc.specs.declared.view.Src.{Src}

@@ -2,13 +2,18 @@
 //! settled. For each table in order its partitions are listed by number: those that rows of the
 //! deliveries lie in, and those that read a listed one of an earlier table.
 
-ghost use Rattle.std.specs.Prelude.{ℕ, ◌≡◌, ◌<◌, ◌≤◌, ◌++◌, ◌∷◌, ◌||◌, ◌+◌, ◌/◌, List, [], Some, IfOk, OnOk, IsSome, All, length, map, option_to_list, slice_get, slice_set, vec_len};
+ghost use Rattle.std.specs.Prelude.{ℕ, ◌≡◌, ◌<◌, ◌≤◌, ◌++◌, ◌∷◌, ◌||◌, ◌+◌, ◌/◌, List, [], Some};
+ghost use Rattle.std.specs.Prelude.{IfOk, OnOk, IsSome, All, length, map, option_to_list};
+ghost use Rattle.std.specs.Prelude.{slice_get, slice_set, vec_len};
 ghost use Rattle.std.specs.List.{list_any};
 ghost use Rattle.std.specs.List.Sorted.{IsStrictlyIncreasing};
-ghost use Rattle.table_desc.specs.Sources.{table_width, kind_sources, IsAligned, HasAlignedSources, HasEarlierSources};
+ghost use Rattle.table_desc.specs.Sources.{table_width, kind_sources, IsAligned, HasAlignedSources};
+ghost use Rattle.table_desc.specs.Sources.{HasEarlierSources};
 ghost use Rattle.table_desc.specs.Time.{END};
 ghost use Rattle.view_meaning.specs.Partitions.{start_of, keys_below, keys_read, is_covered};
-ghost use Rattle.view_meaning.specs.PartLists.{AllGain, AreBrought, AreInTime, Gains, has, is_listed, key_of, keys_of_view, lists_of, parts_at, takes, takes_any};
+ghost use Rattle.view_meaning.specs.PartLists.{AllGain, AreBrought, AreInTime, Gains, has};
+ghost use Rattle.view_meaning.specs.PartLists.{is_listed, key_of, keys_of_view, lists_of, parts_at};
+ghost use Rattle.view_meaning.specs.PartLists.{takes, takes_any};
 ghost use Rattle.view_meaning.specs.RawValues.{lies_in};
 ghost use Rattle.view_meaning.specs.Reached.{reached};
 

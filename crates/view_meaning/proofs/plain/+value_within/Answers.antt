@@ -3,7 +3,8 @@ use Rattle.table_desc.specs.Tables.{TableOf}
 use Rattle.table_desc.specs.KindValues.{Filter}
 use Rattle.view_meaning.specs.Versions.{is_raw_kind}
 use Rattle.view_meaning.specs.Values.{value_within}
-use Rattle.view_meaning.proofs.ValueLemmas.{filtered-rows_of_run, value_within-raw, value_within-filter}
+use Rattle.view_meaning.proofs.ValueLemmas.{filtered-rows_of_run, value_within-raw}
+use Rattle.view_meaning.proofs.ValueLemmas.{value_within-filter}
 use Rattle.view_meaning.proofs.plain.+value_within.Goals as goal
 
 pub returns-in-Raw : goal.returns-in-Raw

@@ -4,7 +4,8 @@ use Rattle.std.proofs.lemmas.Iterator.Adapters.{YieldsList-from_vec}
 use Rattle.std.proofs.lemmas.Iterator.Consumers.{YieldsList-turn, YieldsList-end}
 use Rattle.view_meaning.specs.PartLists.{lists_of}
 use Rattle.view_meaning.proofs.PartListLemmas.{length-lists_of}
-use Rattle.view_meaning.proofs.ReachedListLemmas.{AreInTime-AllReached, AreUpTo-turn, reached_of-all}
+use Rattle.view_meaning.proofs.ReachedListLemmas.{AreInTime-AllReached, AreUpTo-turn}
+use Rattle.view_meaning.proofs.ReachedListLemmas.{reached_of-all}
 use Rattle.view_meaning.proofs.reached.reached_keys.Goals as goal
 
 pub push_above-requires-clause-in_time : goal.push_above-requires-clause-in_time
