@@ -51,7 +51,7 @@ is_among-after key keys behind =
     list_any_none (is_key key) keys (λ index default within.
     is_key-before key (get_or keys index default) (inl (behind index default within)))
 
--- nor is one that stands behind each
+-- nor is a key that stands after each
 pub is_among-before : (key : Key) (keys : List Key) → All (λ before. IsBefore before key) keys
     → is_among keys key ≡ false
 is_among-before key keys before =
@@ -63,7 +63,7 @@ pub IsBefore-table : (key : Key) (keys : List Key)
     → All (λ (later : Key). key.table < later.table) keys → All (IsBefore key) keys
 IsBefore-table key keys later index default within = inl (later index default within)
 
--- a key is of no later table than those behind it
+-- a key is of no later table than those after it
 pub IsBefore-le : (key later : Key) → IsBefore key later → key.table ≤ later.table
 IsBefore-le key later before = omega arith
 

@@ -144,7 +144,7 @@ install_content-start desc rows journal key table first =
     (λ source. ap (rows source) (version-empty desc source) ∙ first source))
 
 -- the latest version of a view's partition is what an install made that counted as many entries as
--- the last one, also where there was none
+-- the last one, even if there was none
 view_content-last : (desc : DescOf) (rows : Key → ℕ → List (List Cell)) (journal : List Entry)
     (key : Key) (table : TableOf) → ((source : Key) → rows source 0 ≡ [])
     → view_content desc rows journal key table (length (install_places journal key))
@@ -165,7 +165,7 @@ view_content-last desc rows journal key table first = at_places (install_places 
         ap (λ (places : List ℕ). view_content desc rows journal key table (length places)) some
         ∙ ap made (nth_place-last journal key place later some)
 
--- where a partition is not stale, its sources have the versions that its last install saw
+-- if a partition is not stale, its sources have the versions that its last install saw
 versions-seen : (desc : DescOf) (journal : List Entry) (key : Key)
     → is_stale desc journal key ≡ false
     → All (λ source. version desc (take (last_place journal key) journal) source
@@ -175,7 +175,7 @@ versions-seen desc journal key fresh =
     (sources_of desc key)
     (same_text (recorded desc journal key) (current desc journal key) (sym (not-false _ fresh)))
 
--- the latest version of a partition holds its value, where the versions of the sources that its
+-- the latest version of a partition holds its value, if the versions of the sources that its
 -- last install read hold theirs
 content_over-version : (desc : DescOf) (rows : Key → ℕ → List (List Cell))
     (other : Key → List (List Cell)) (journal : List Entry) (key : Key) (found : Option TableOf)
@@ -221,12 +221,12 @@ content_within-version (suc depth) desc journal key settled =
     ap (content_within depth desc journal source) (seen index default within)
     ∙ content_within-version depth desc journal source (below index default within))
 
--- where a partition is settled, its latest version holds its value
+-- if a partition is settled, its latest version holds its value
 pub settled_values : HasSettledValues
 settled_values desc journal key settled =
     content_within-version (suc key.table) desc journal key settled
 
--- a table has no rows where nothing was accepted and those below it have none
+-- a table has no rows if nothing was accepted and those below it have none
 value_over-empty : (desc : DescOf) (rows : Key → List (List Cell)) (key : Key)
     (found : Option TableOf) → ((source : Key) → rows source ≡ [])
     → value_over desc [] rows key found ≡ []
@@ -245,6 +245,6 @@ value_within-empty (suc depth) desc key =
     value_over-empty desc (value_within depth desc []) key (slice_get desc.tables key.table)
     (λ source. value_within-empty depth desc source)
 
--- where nothing was accepted no partition has rows
+-- if nothing was accepted no partition has rows
 pub value-empty : (desc : DescOf) (key : Key) → value desc [] key ≡ []
 value-empty desc key = value_within-empty (suc key.table) desc key

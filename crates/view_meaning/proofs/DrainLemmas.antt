@@ -35,7 +35,7 @@ use Rattle.view_meaning.proofs.SettledLemmas.{sources_of-settled, is_settled-no_
 use Rattle.view_meaning.proofs.InstallLemmas.{with_installs, is_stale-with_installs, is_stale-among}
 use Rattle.view_meaning.proofs.InstallLemmas.{is_stale-before, is_among-sources}
 
--- a partition is among the unsettled ones where it is a view's and is not settled
+-- a partition is among the unsettled ones if it is a view's and is not settled
 is_among-unsettled : (desc : DescOf) (journal : List Entry) (key : Key)
     → is_among (unsettled desc journal) key
     ≡ (not (is_settled desc journal key) && is_among (all_view_keys desc) key)
@@ -255,7 +255,7 @@ module _ (desc : DescOf) (journal : List Entry) (earlier : HasEarlierSources des
   pub IsLegal-drained : IsLegal desc (drained desc journal)
   IsLegal-drained = IsLegal-with_installs [] (unsettled desc journal) journal refl refl legal
 
-  -- behind a drain each partition is settled
+  -- after a drain each partition is settled
   pub is_settled-drained : (key : Key) → is_part desc key ≡ true
       → is_settled desc (drained desc journal) key ≡ true
   is_settled-drained key part =

@@ -54,7 +54,7 @@ raw_content-append desc accepted more key number known =
     (take-append-le number (loads_kept desc key [] accepted) (loads_kept desc key accepted more)
     (omega (arith, length-loads_kept desc key [] accepted)))
 
--- entries more leave what an install made, where they leave the versions of its sources
+-- entries more leave what an install made, if they leave the versions of its sources
 install_content-append : (desc : DescOf) (rows other : Key → ℕ → List (List Cell))
     (journal more : List Entry) (key : Key) (table : TableOf) (at : ℕ) → at ≤ length journal
     → ((source : Key) (number : ℕ) → number ≤ version desc journal source
@@ -116,7 +116,7 @@ content_over-append desc rows other journal more key number (Some table) here kn
           within agree)
     ]
 
--- entries behind a legal journal leave the content of each version that it has
+-- entries after a legal journal leave the content of each version that it has
 content_within-append : (depth : ℕ) (desc : DescOf) (journal more : List Entry) (key : Key)
     (number : ℕ) → IsLegal desc journal → number ≤ version desc journal key
     → content_within depth desc (journal ++ more) key number

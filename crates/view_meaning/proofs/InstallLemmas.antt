@@ -1,5 +1,5 @@
 -- A journal with installs of some keys at its end, one by one: what they do to versions, and which
--- partitions are not stale behind them.
+-- partitions are not stale after them.
 use Rattle.std.proofs.Common.{◌≡◌, ◌∙◌, ℕ, ◌+◌, ◌<◌, ◌≤◌, List, [], ◌∷◌, ◌++◌, length, get_or, take}
 use Rattle.std.proofs.Common.{refl, sym, ap, subst, inl, inr, arith}
 use Rattle.std.specs.Prelude.{true, false, All, fold, slice_get}
@@ -33,7 +33,7 @@ abbrev made_from : ℕ → List Key → List Entry
 made_from at [] = []
 made_from at (key ∷ later) = entry.Install key at ∷ made_from (at + 1) later
 
--- the installs stand behind the journal
+-- the installs stand after the journal
 with_installs-made_from : (journal : List Entry) (keys : List Key)
     → with_installs journal keys ≡ journal ++ made_from (length journal) keys
 with_installs-made_from journal [] = sym (append-nil journal)
@@ -68,7 +68,7 @@ install_places-made_from-lt at (first ∷ later) key among =
           (install_places-made_from-lt (at + 1) later key (rw other at among))
     ]
 
--- a version stays where its partition is not installed
+-- a version stays if its partition is not installed
 version-with_installs : (desc : DescOf) (journal : List Entry) (keys : List Key) (key : Key)
     → is_among keys key ≡ false
     → version desc (with_installs journal keys) key ≡ version desc journal key
@@ -101,7 +101,7 @@ version-with_installs-lt desc journal keys key view among =
       install_places-made_from-lt (length journal) keys key among,
     ))
 
--- what the last install recorded stays where the partition is not installed since
+-- what the last install recorded stays if the partition is not installed since
 pub recorded-with_installs : (desc : DescOf) (journal : List Entry) (keys : List Key) (key : Key)
     → last_place journal key ≤ length journal → is_among keys key ≡ false
     → recorded desc (with_installs journal keys) key ≡ recorded desc journal key
@@ -110,7 +110,7 @@ recorded-with_installs desc journal keys key within none =
     ∙ recorded-same desc journal (made_from (length journal) keys) key within
     (install_places-made_from (length journal) keys key none)
 
--- the versions of its sources stay where none of them is installed
+-- the versions of its sources stay if none of them is installed
 current-with_installs : (desc : DescOf) (journal : List Entry) (keys : List Key) (key : Key)
     → All (λ source. is_among keys source ≡ false) (sources_of desc key)
     → current desc (with_installs journal keys) key ≡ current desc journal key
@@ -120,7 +120,7 @@ current-with_installs desc journal keys key none =
     (λ index default within. version-with_installs desc journal keys
     (get_or (sources_of desc key) index default) (none index default within))
 
--- a partition does not become stale where neither it nor a source is installed
+-- a partition does not become stale if neither it nor a source is installed
 pub is_stale-with_installs : (desc : DescOf) (journal : List Entry) (keys : List Key) (key : Key)
     → last_place journal key ≤ length journal → is_among keys key ≡ false
     → All (λ source. is_among keys source ≡ false) (sources_of desc key)
@@ -141,7 +141,7 @@ recorded-with_install desc journal installed key same =
     ∙ ap (λ (before : List Entry). current desc before key)
     (take_at journal (entry.Install installed (length journal) ∷ []) (length journal) refl)
 
--- a partition that was installed is not stale where neither it nor a source is installed since
+-- a partition that was installed is not stale if neither it nor a source is installed since
 pub is_stale-installed : (desc : DescOf) (journal : List Entry) (installed key : Key)
     (later : List Key) → is_key key installed ≡ true → is_among later key ≡ false
     → All (λ source. is_among (installed ∷ later) source ≡ false) (sources_of desc key)
@@ -155,7 +155,7 @@ is_stale-installed desc journal installed key later same none below =
     ∙ recorded-with_install desc journal installed key same
     ∙ sym (current-with_installs desc journal (installed ∷ later) key below))
 
--- a partition that is among those installed, in order, is not stale where its sources are earlier
+-- a partition that is among those installed, in order, is not stale if its sources are earlier
 pub is_stale-among : (desc : DescOf) (journal : List Entry) (keys : List Key) (key : Key)
     → AllPairs IsBefore keys → is_among keys key ≡ true
     → All (λ (source : Key). source.table < key.table) (sources_of desc key)
@@ -177,7 +177,7 @@ is_stale-among desc journal (first ∷ later) key rises among earlier =
           (AllPairs-tail IsBefore first later rises) (rw other at among) earlier
     ]
 
--- a partition that is not stale behind installs of others recorded the versions that its sources
+-- a partition that is not stale after installs of others recorded the versions that its sources
 -- have there
 versions-recorded : (desc : DescOf) (journal : List Entry) (keys : List Key) (key : Key)
     → last_place journal key ≤ length journal → is_among keys key ≡ false

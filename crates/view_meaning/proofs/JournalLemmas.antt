@@ -6,7 +6,7 @@ use Rattle.view_meaning.specs.declared.journal.Entry.{Entry}
 use Rattle.view_meaning.specs.declared.journal.Entry.TheVariants as entry
 use Rattle.view_meaning.specs.Journal.{accepted, delivery_of}
 
--- the deliveries of loads alone are those that were loaded
+-- the deliveries of a journal of loads are those that were loaded
 pub accepted-map-Load : (deliveries : List DeliveryOf)
     → accepted (map entry.Load deliveries) ≡ deliveries
 accepted-map-Load [] = refl

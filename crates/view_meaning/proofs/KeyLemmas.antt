@@ -81,7 +81,7 @@ pub AllPairs-all_parts : (width : ℕ) → AllPairs (λ (part next : ℕ). part 
 unfolding all_parts
 AllPairs-all_parts width = AllPairs-parts_met width 0 END
 
--- the keys of the partitions of a table, where it is a view
+-- the keys of the partitions of a table, if it is a view
 abbrev view_keys_of : DescOf → (number : ℕ) → List Key
 view_keys_of desc number = view_keys number (slice_get desc.tables number)
 
@@ -181,7 +181,7 @@ list_any-all_parts : (width part : ℕ) → is_met width 0 END part ≡ true
 unfolding all_parts
 list_any-all_parts width part met = list_any-parts_met width 0 END part met
 
--- so is its key, where the table is a view
+-- so is its key, if the table is a view
 list_any-view_keys : (key : Key) (table : TableOf) → is_raw_kind table.kind ≡ false
     → is_met table.width 0 END key.part ≡ true
     → list_any (is_key key) (view_keys key.table (Some table)) ≡ true

@@ -22,7 +22,7 @@ use Rattle.view_meaning.proofs.KeyLemmas.{sources_of-raw}
 use Rattle.view_meaning.proofs.VersionLemmas.{install_places-append}
 use Rattle.view_meaning.proofs.SettledLemmas.{is_stale-no_sources}
 
--- one entry more may follow behind those that may
+-- one entry more may follow after those that may
 MayAllFollow-push : (desc : DescOf) (journal entries : List Entry) (next : Entry)
     → MayAllFollow desc journal entries → MayFollow desc (journal ++ entries) next
     → MayAllFollow desc journal (entries ++ next ∷ [])
@@ -59,7 +59,7 @@ MayInstall-last desc journal key part stale ready =
           (drop_all (length journal) journal (omega arith));
     }
 
--- what holds of a legal journal, and is kept by each entry that may follow one, holds behind
+-- what holds of a legal journal, and is kept by each entry that may follow one, holds after
 -- entries that may follow one by one
 MayAllFollow-kept : (desc : DescOf) (P : List Entry → Type 0)
     → ((journal : List Entry) (next : Entry) → IsLegal desc journal → P journal
@@ -169,7 +169,7 @@ install_places-saw desc journal key =
     (λ before next _ saw follows. SawSettled-push desc before next key saw follows)
     journal
 
--- none of these places is behind a journal of this length
+-- none of these places is past the end of a journal of this length
 abbrev pub AreWithin : (many : ℕ) → List ℕ → Type 0
 AreWithin many places = All (λ place. place ≤ many) places
 

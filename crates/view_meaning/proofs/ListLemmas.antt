@@ -1,5 +1,5 @@
 -- Facts on lists of anything, and on runs of numbers, that std does not have. Take
--- `filter-range_with_len` where a test passes exactly on a run of numbers.
+-- `filter-range_with_len` if a test passes exactly on a run of numbers.
 use Rattle.std.proofs.Common.{◌≡◌, ◌∙◌, ℕ, zero, suc, ◌+◌, ◌-◌, ◌<◌, ◌≤◌, List, [], ◌∷◌, ◌++◌}
 use Rattle.std.proofs.Common.{length, take, drop, get_or, map, cond, refl, sym, ap, arith}
 use Rattle.std.specs.Prelude.{Bool, true, false, not, ◌&&◌, ◌||◌, ◌==◌, All, flat_map, fold, nat_eq}
@@ -63,14 +63,14 @@ list_any-agree f g (x ∷ xs) agree =
     rw (All-head (λ x. f x ≡ g x) x xs agree)
     (ap (λ rest. g x || rest) (list_any-agree f g xs (All-tail (λ x. f x ≡ g x) x xs agree)))
 
--- a test finds an image where the test of images finds an element
+-- a test finds an image if the test of images finds an element
 pub list_any-map : {X Y : Type 0} (test : Y → Bool) (f : X → Y) (xs : List X)
     → list_any test (map f xs) ≡ list_any (λ x. test (f x)) xs
 list_any-map test f [] = refl
 list_any-map test f (x ∷ xs) =
     ap (λ (rest : Bool). test (f x) || rest) (list_any-map test f xs)
 
--- a test finds an element of joined lists where it finds one of some list
+-- a test finds an element of joined lists if it finds one of some list
 pub list_any-flat_map : {X Y : Type 0} (test : Y → Bool) (f : X → List Y) (xs : List X)
     → list_any test (flat_map f xs) ≡ list_any (λ x. list_any test (f x)) xs
 list_any-flat_map test f [] = refl
@@ -100,7 +100,7 @@ All-from_flat_map P f (x ∷ xs) all =
     (sym (drop-append_seam (f x) (flat_map f xs)))
     (All-drop P (length (f x)) (flat_map f (x ∷ xs)) all)))
 
--- all elements pass a test where none passes the test turned round
+-- all elements pass a test if none passes the test turned round
 pub list_all-not : {X : Type 0} (test : X → Bool) (xs : List X)
     → list_all (λ x. not (test x)) xs ≡ not (list_any test xs)
 list_all-not test [] = refl
@@ -108,7 +108,7 @@ list_all-not test (x ∷ xs) =
     ap (λ (rest : Bool). not (test x) && rest) (list_all-not test xs)
     ∙ not-or (test x) (list_any test xs)
 
--- all elements pass two tests where all pass each
+-- all elements pass two tests if all pass each
 pub list_all-and : {X : Type 0} (test other : X → Bool) (xs : List X)
     → (list_all test xs && list_all other xs) ≡ list_all (λ x. test x && other x) xs
 list_all-and test other [] = refl
@@ -123,7 +123,7 @@ list_all-and test other (x ∷ xs) =
     crossed true false true last = refl
     crossed true true second last = refl
 
--- two lists of numbers that are made of one are the same where each pair is
+-- two lists of numbers that are made of one are the same if each pair is
 pub pointwise-map : {X : Type 0} (f g : X → ℕ) (xs : List X)
     → pointwise nat_eq (map f xs) (map g xs) ≡ list_all (λ x. nat_eq (f x) (g x)) xs
 pointwise-map f g [] = refl
@@ -139,7 +139,7 @@ filter-agree test other (x ∷ xs) agree =
     (ap (λ rest. cond (other x) (x ∷ rest) rest)
     (filter-agree test other xs (All-tail (λ x. test x ≡ other x) x xs agree)))
 
--- a list in front, where a test passes, makes the joined lists longer by it, or is empty
+-- a list in front, if a test passes, makes the joined lists longer by it, or is empty
 pub flat_map-cons_if : {X : Type 0} (test : Bool) (first : List X) (rest : List (List X))
     → (test ≡ false → first ≡ [])
     → flat_map (λ xs. xs) (if test then first ∷ rest else rest)
@@ -147,13 +147,13 @@ pub flat_map-cons_if : {X : Type 0} (test : Bool) (first : List X) (rest : List 
 flat_map-cons_if true first rest none = refl
 flat_map-cons_if false first rest none = rw (none refl) refl
 
--- an element in front, where a test passes, counts
+-- an element in front, if a test passes, counts
 pub length-cons_if : {X : Type 0} (test : Bool) (first : X) (rest : List X)
     → length (if test then first ∷ rest else rest) ≡ (if test then 1 else 0) + length rest
 length-cons_if true first rest = omega arith
 length-cons_if false first rest = omega arith
 
--- a list with an element in front, where a test passes, goes on as it does without it
+-- a list with an element in front, if a test passes, goes on as it does without it
 pub append-cons_if : {X : Type 0} (test : Bool) (first : X) (rest more : List X)
     → (if test then first ∷ (rest ++ more) else rest ++ more)
     ≡ (if test then first ∷ rest else rest) ++ more
@@ -300,7 +300,7 @@ AllPairs-front R xs ys pairs first second default before within =
     )
     (pairs first second default before (omega (arith, length-append xs ys)))
 
--- the elements behind one stand behind it
+-- the elements after one stand after it
 pub AllPairs-after : {X : Type 0} (R : X → X → Type 0) (xs : List X) (x : X) (ys : List X)
     → AllPairs R (xs ++ x ∷ ys) → All (R x) ys
 AllPairs-after R [] x ys pairs = AllPairs-head R x ys pairs
@@ -318,7 +318,7 @@ AllPairs-before R xs x ys pairs index default within =
       get_or_at xs x ys default (length xs) refl,
     ) at pair
 
--- two lists are in order where all of the first stand before all of the second
+-- two lists are in order if all of the first stand before all of the second
 pub AllPairs-append : {X : Type 0} (R : X → X → Type 0) (xs ys : List X)
     → AllPairs R xs → AllPairs R ys → All (λ x. All (R x) ys) xs → AllPairs R (xs ++ ys)
 AllPairs-append R [] ys front back across = back
@@ -329,7 +329,7 @@ AllPairs-append R (x ∷ xs) ys front back across =
     (AllPairs-append R xs ys (AllPairs-tail R x xs front) back
     (All-tail (λ x. All (R x) ys) x xs across))
 
--- what is made of the elements is in order where the elements are, made so
+-- what is made of the elements is in order if the elements are, made so
 pub AllPairs-map : {X Y : Type 0} (R : Y → Y → Type 0) (f : X → Y) (xs : List X)
     → AllPairs (λ x next. R (f x) (f next)) xs → AllPairs R (map f xs)
 AllPairs-map R f [] pairs = λ first second default before within. absurd (omega arith)

@@ -35,7 +35,7 @@ Contains-has xs number there = Contains-from_any eqb-true number xs there
 pub has-Contains : (xs : List ℕ) (number : ℕ) → Contains xs number → has xs number ≡ true
 has-Contains xs number there = list_any-from_Contains nat_eq_equiv number xs there
 
--- where one list has a number of another, the other has that of it
+-- if one list has a number of another, the other has that of it
 meets : (xs ys : List ℕ) → list_any (has xs) ys ≡ true → list_any (has ys) xs ≡ true
 meets xs ys there =
     let one = Any-from_list_any (has xs) ys there in
@@ -48,7 +48,7 @@ pub list_any-has : (xs ys : List ℕ) → list_any (has xs) ys ≡ list_any (has
 list_any-has xs ys =
     same-answer (list_any (has xs) ys) (list_any (has ys) xs) (meets xs ys) (meets ys xs)
 
--- a list where all numbers are greater does not have a number
+-- a list of greater numbers does not have a number
 has-above : (first number : ℕ) (xs : List ℕ) → All (λ x. first < x) xs → number ≤ first
     → has xs number ≡ false
 has-above first number xs above at_most =
@@ -70,7 +70,7 @@ has-le first number xs above there = ⊎_elim
     (λ at_least. at_least)
     (cases_lt number first)
 
--- behind its first number a list has the other numbers that it has
+-- after its first number a list has the other numbers that it has
 has-rest : (first number : ℕ) (xs : List ℕ) → (number ≡ first → ⊥)
     → has xs number ≡ has (first ∷ xs) number
 has-rest first number xs other = rw (ne_eqb number first other) refl

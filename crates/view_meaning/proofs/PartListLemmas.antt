@@ -56,7 +56,7 @@ has-run bound number below =
     ∙ and_from (nat_le 0 number) (nat_lt number (0 + bound)) (le-leb 0 number (omega arith))
     (lt-ltb number (0 + bound) (omega arith))
 
--- a partition is among those that share a tick with a span just where it does
+-- a partition is among those that share a tick with a span exactly if it does
 pub has-parts_met : (width from to part : ℕ)
     → has (parts_met width from to) part ≡ is_met width from to part
 has-parts_met width from to part =

@@ -31,7 +31,7 @@ pub is_met-no_width : (from to part : ℕ) → is_met 0 from to part ≡ false
 is_met-no_width from to part =
     le-ltb (max (start_of 0 part) from) (min (end_of 0 part) to) (omega arith)
 
--- where partitions have no ticks, none shares one with a span
+-- if partitions have no ticks, none shares one with a span
 pub parts_met-no_width : (from to : ℕ) → parts_met 0 from to ≡ range_with_len 0 0
 parts_met-no_width from to =
     filter-none (is_met 0 from to) (range_with_len 0 to)
@@ -55,7 +55,7 @@ is_met-within width from to part some in_order in_time at_least at_most =
     let first : from < from / width * width + width = lt-div-mul-add (omega arith) in
     lt-ltb (max (start_of width part) from) (min (end_of width part) to) (omega arith)
 
--- a partition behind that of the last tick shares none with the span
+-- a partition after that of the last tick shares none with the span
 is_met-after : (width from to part : ℕ) → 1 ≤ width → (to - 1) / width < part
     → is_met width from to part ≡ false
 is_met-after width from to part some behind =
@@ -80,13 +80,13 @@ parts_met-run width from to is_width in_order in_time =
     (λ part at_least. is_met-after width from to part is_width.some (omega arith))
     ∙ ap (λ (many : ℕ). range_with_len (from / width) many) (omega arith)
 
--- the next partition begins a width behind
+-- the next partition begins a width later
 pub start_of-next : (width part : ℕ) → start_of width (part + 1) ≡ start_of width part + width
 start_of-next width part =
     add-mul part 1 width ∙ ap (λ (one : ℕ). part * width + one) (one-mul width)
 
 -- a partition of a width that is cut nowhere begins with the wider partition that it shares a tick
--- with, or behind it
+-- with, or after it
 start-le : (source_width width part source : ℕ) → width % source_width ≡ 0
     → part * width < source * source_width + source_width
     → part * width ≤ source * source_width
@@ -127,7 +127,7 @@ is_met-quotient source_width width part source some some_too in_time quotient =
     (min (end_of source_width source) (min END ((part + 1) * width))) (omega arith)
 
 -- a partition that begins in time shares a tick with a wider one, by whose width it is cut nowhere,
--- exactly where division gives the wider one's number
+-- exactly if division gives the wider one's number
 pub is_met-div : (source_width width part source : ℕ) → 1 ≤ source_width → 1 ≤ width
     → width % source_width ≡ 0 → start_of source_width source < END
     → is_met source_width (part * width) (min END ((part + 1) * width)) source

@@ -43,7 +43,7 @@ raw_value-push desc accepted key delivery =
     (kept_rows-all desc accepted delivery))
     ∙ cells_where-append (lies_in desc key) (kept desc accepted) delivery.rows
 
--- one delivery more behind the others counts where it keeps a row in the partition
+-- one delivery more after the others counts if it keeps a row in the partition
 loads_after-push : (desc : DescOf) (key : Key) (before accepted : List DeliveryOf)
     (delivery : DeliveryOf)
     → loads_after desc key before (accepted ++ delivery ∷ [])
@@ -64,7 +64,7 @@ loads_after-push desc key before (first ∷ later) delivery =
     (loads_after desc key (before ++ first ∷ []) later)
     (if touches desc key (before ++ first ∷ later) delivery then 1 else 0))
 
--- one delivery more counts where it has a row in the partition
+-- one delivery more counts if it has a row in the partition
 pub raw_version-push : (desc : DescOf) (accepted : List DeliveryOf) (key : Key)
     (delivery : DeliveryOf)
     → raw_version desc (accepted ++ delivery ∷ []) key
@@ -76,12 +76,12 @@ raw_version-push desc accepted key delivery =
     raw_version desc accepted key + (if list_any (lies_in desc key) rows then 1 else 0))
     (kept_rows-all desc accepted delivery)
 
--- where there is no such table no row lies in the partition
+-- if there is no such table no row lies in the partition
 lies_in-no_table : (desc : DescOf) (key : Key) → slice_get desc.tables key.table ≡ None
     → (row : DRow) → lies_in desc key row ≡ false
 lies_in-no_table desc key no_table row = rw no_table (and-false (row.table == key.table))
 
--- where there is, a row lies in the partition if it lies in it by the table
+-- if there is, a row lies in the partition just as it lies in it by the table
 lies_in-table : (desc : DescOf) (key : Key) (table : TableOf)
     → slice_get desc.tables key.table ≡ Some table
     → (row : DRow) → lies_in desc key row ≡ lies_in_table table key row
@@ -112,7 +112,7 @@ raw_value-take desc accepted key table index delivery found below read =
     (filter_agree (lies_in desc key) (lies_in_table table key)
     (lies_in-table desc key table found) delivery.rows)
 
--- one delivery more of the list counts where it has a row in the partition
+-- one delivery more of the list counts if it has a row in the partition
 pub raw_version-take : (desc : DescOf) (accepted : List DeliveryOf) (key : Key)
     (table : TableOf) (index : ℕ) (delivery : DeliveryOf) (has_row : Bool)
     → slice_get desc.tables key.table ≡ Some table
@@ -131,7 +131,7 @@ raw_version-take desc accepted key table index delivery has_row found below read
     lies_in-table desc key table found (get_or delivery.rows index default))
     ∙ sym tested)
 
--- where there is no such table there are no rows
+-- if there is no such table there are no rows
 pub raw_value-no_table : (desc : DescOf) (accepted : List DeliveryOf) (key : Key)
     → slice_get desc.tables key.table ≡ None → raw_value desc accepted key ≡ []
 raw_value-no_table desc accepted key no_table =
@@ -140,7 +140,7 @@ raw_value-no_table desc accepted key no_table =
     (filter-none (lies_in desc key) rows
     (λ index default _. lies_in-no_table desc key no_table (get_or rows index default)))
 
--- where there is no such table no delivery counts
+-- if there is no such table no delivery counts
 loads_after-no_table : (desc : DescOf) (key : Key) (before accepted : List DeliveryOf)
     → slice_get desc.tables key.table ≡ None → loads_after desc key before accepted ≡ 0
 loads_after-no_table desc key before [] no_table = refl
@@ -151,7 +151,7 @@ loads_after-no_table desc key before (delivery ∷ later) no_table =
     (λ index default _. lies_in-no_table desc key no_table (get_or rows index default)) in
     rw none (rw (loads_after-no_table desc key (before ++ delivery ∷ []) later no_table) refl)
 
--- where there is no such table the version is 0
+-- if there is no such table the version is 0
 pub raw_version-no_table : (desc : DescOf) (accepted : List DeliveryOf) (key : Key)
     → slice_get desc.tables key.table ≡ None → raw_version desc accepted key ≡ 0
 raw_version-no_table desc accepted key = loads_after-no_table desc key [] accepted

@@ -54,7 +54,7 @@ is_reached_within-enough desc deliveries earlier depth key enough =
     (reached_above desc deliveries) (λ _ _. refl) (reached_above-agree desc deliveries earlier)
     depth (suc key.table) key enough (omega arith)
 
--- deliveries reach a partition where they bring a row of it or reach one of its sources
+-- deliveries reach a partition if they bring a row of it or reach one of its sources
 pub is_reached-step : (desc : DescOf) (deliveries : List DeliveryOf) (key : Key)
     → HasEarlierSources desc
     → is_reached desc deliveries key
@@ -96,7 +96,7 @@ lies_in-outside desc key row outside =
     at_table (Some table) outside =
         at_tick table.width (row_tick table.kind row.cells) outside
 
--- deliveries bring no row of a key where no row lies in it
+-- deliveries bring no row of a key if no row lies in it
 pub brings-none : (desc : DescOf) (deliveries : List DeliveryOf) (key : Key)
     → ((row : DRow) → lies_in desc key row ≡ false)
     → list_any (brings key desc) deliveries ≡ false

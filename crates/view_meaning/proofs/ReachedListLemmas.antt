@@ -101,7 +101,7 @@ AllReached-push desc deliveries lists parts reached own table part within = ⊎_
     ∙ own part))
     (cases_lt table (length lists))
 
--- a partition is among all of a table just where it shares a tick with time
+-- a partition is among all of a table exactly if it shares a tick with time
 has-all_parts : (width part : ℕ) → has (all_parts width) part ≡ is_met width 0 END part
 unfolding all_parts
 has-all_parts width part = has-parts_met width 0 END part

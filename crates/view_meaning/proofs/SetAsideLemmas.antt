@@ -37,7 +37,7 @@ kept_after-push desc before (first ∷ later) delivery =
     (kept_after desc (before ++ first ∷ []) later)
     (kept_rows desc (before ++ first ∷ later) delivery))
 
--- the rows that one delivery more keeps come last, behind those of all before it
+-- the rows that one delivery more keeps come last, after those of all before it
 pub kept-push : (desc : DescOf) (accepted : List DeliveryOf) (delivery : DeliveryOf)
     → kept desc (accepted ++ delivery ∷ []) ≡ kept desc accepted ++ kept_rows desc accepted delivery
 kept-push desc accepted delivery = kept_after-push desc [] accepted delivery

@@ -43,7 +43,7 @@ is_settled_within-enough desc journal earlier =
     (λ source. below source ≡ other source) agree (sources_of desc key)
     (sources_of-earlier desc key earlier))))
 
--- a partition is settled exactly where it is not stale and its sources are settled
+-- a partition is settled exactly if it is not stale and its sources are settled
 pub is_settled-step : (desc : DescOf) (journal : List Entry) (key : Key) → HasEarlierSources desc
     → is_settled desc journal key
     ≡ (not (is_stale desc journal key)

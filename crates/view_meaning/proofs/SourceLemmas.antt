@@ -1,5 +1,5 @@
 -- The sources of a partition stand in earlier tables. So what goes down from a table to earlier
--- ones is the same however many tables it may go down through, where these are enough: `within-enough`.
+-- ones is the same however many tables it may go down through, if these are enough: `within-enough`.
 use Rattle.std.proofs.Common.{◌≡◌, ◌∙◌, ℕ, suc, zero, ◌<◌, refl, sym, arith}
 use Rattle.std.specs.Prelude.{Option, Some, None, All, slice_get}
 use Rattle.std.proofs.lemmas.List.Elements.{All-map, All-weaker}
@@ -40,7 +40,7 @@ sources_of-earlier desc key earlier =
         (λ src before. keys_read-earlier desc table.width key.part key.table src before)
         (kind_sources table.kind) (before table refl))
 
--- a step down that looks at earlier tables alone gives the same within any two depths that are
+-- a step down that looks only at earlier tables gives the same within any two depths that are
 -- enough
 pub within-enough : {X : Type 0} (within : ℕ → Key → X) (step : (Key → X) → Key → X)
     → ((depth : ℕ) (key : Key) → within (suc depth) key ≡ step (within depth) key)

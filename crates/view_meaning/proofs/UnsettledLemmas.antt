@@ -1,4 +1,4 @@
--- What loads at the end of a journal leave unsettled: where all was settled before, just the
+-- What loads at the end of a journal leave unsettled: if all was settled before, just the
 -- partitions of views that they reach.
 use Rattle.std.proofs.Common.{◌≡◌, ◌∙◌, ℕ, zero, suc, ◌+◌, ◌<◌, ◌≤◌, List, [], ◌∷◌, ◌++◌, length}
 use Rattle.std.proofs.Common.{get_or, map, refl, ap, sym, inl, inr, arith}
@@ -78,7 +78,7 @@ brings-not_raw : (desc : DescOf) (deliveries : List DeliveryOf) (key : Key)
 brings-not_raw desc deliveries key view =
     brings-none desc deliveries key (λ row. lies_in-not_raw desc key row view)
 
--- a count that may go up by one and then never falls stays just where it does neither
+-- a count that may go up by one and then never falls stays exactly if it does neither
 nat_eq-step : (up : Bool) (old new last : ℕ) (rest : Bool) → new ≡ old + (if up then 1 else 0)
     → new ≤ last → nat_eq new last ≡ not rest → nat_eq old last ≡ not (up || rest)
 nat_eq-step true old new last rest counted at_most same =
@@ -86,7 +86,7 @@ nat_eq-step true old new last rest counted at_most same =
 nat_eq-step false old new last rest counted at_most same =
     ap (λ (count : ℕ). nat_eq count last) (omega arith) ∙ same
 
--- deliveries more leave the version of a raw partition just where none of them brings a row of it
+-- deliveries more leave the version of a raw partition exactly if none of them brings a row of it
 raw_version-append : (desc : DescOf) (accepted more : List DeliveryOf) (key : Key)
     → nat_eq (raw_version desc accepted key) (raw_version desc (accepted ++ more) key)
     ≡ not (list_any (brings key desc) more)
@@ -103,7 +103,7 @@ raw_version-append desc accepted (delivery ∷ later) key =
     (list_any (brings key desc) later) (raw_version-push desc accepted key delivery)
     (raw_version-le desc next later key) (raw_version-append desc next later key)
 
--- loads leave the version of a raw partition just where they bring no row of it
+-- loads leave the version of a raw partition exactly if they bring no row of it
 version-with_loads-raw : (desc : DescOf) (journal : List Entry) (deliveries : List DeliveryOf)
     (key : Key) → is_raw (slice_get desc.tables key.table) ≡ true
     → nat_eq (version desc journal key) (version desc (with_loads journal deliveries) key)
@@ -134,7 +134,7 @@ version-with_loads-view desc journal deliveries key view =
     ∙ sym (version-view desc loaded key view))
     ∙ ap not (sym (brings-not_raw desc deliveries key view))
 
--- so they leave a version just where they bring no row of the partition
+-- so they leave a version exactly if they bring no row of the partition
 version-with_loads : (desc : DescOf) (journal : List Entry) (deliveries : List DeliveryOf)
     (key : Key)
     → nat_eq (version desc journal key) (version desc (with_loads journal deliveries) key)
@@ -145,7 +145,7 @@ version-with_loads desc journal deliveries key =
       | inr view ↦ version-with_loads-view desc journal deliveries key view
     ]
 
--- behind loads a partition that was settled is not stale just where they bring no row of a source
+-- after loads a partition that was settled is not stale exactly if they bring no row of a source
 is_stale-with_loads : (desc : DescOf) (journal : List Entry) (deliveries : List DeliveryOf)
     (key : Key) → HasEarlierSources desc → IsLegal desc journal
     → is_settled desc journal key ≡ true
@@ -165,8 +165,8 @@ is_stale-with_loads desc journal deliveries key earlier legal settled =
     (λ source. not (list_any (brings source desc) deliveries)) sources
     (λ index default _. version-with_loads desc journal deliveries (get_or sources index default))
 
--- a source is settled and gets no row just where they do not reach it, if it is settled just where
--- they reach none of its own
+-- a source is settled and gets no row exactly if they do not reach it, given that it is settled
+-- exactly if they reach none of its own
 is_reached-source : (desc : DescOf) (journal : List Entry) (deliveries : List DeliveryOf)
     (source : Key) → HasEarlierSources desc
     → is_settled desc (with_loads journal deliveries) source
@@ -180,8 +180,8 @@ is_reached-source desc journal deliveries source earlier settled =
     ∙ not-or brought (list_any (is_reached desc deliveries) (sources_of desc source))
     ∙ ap not (sym (is_reached-step desc deliveries source earlier))
 
--- a partition is settled just where they reach none of its sources, if each of these is settled and
--- gets no row just where they do not reach it
+-- a partition is settled exactly if they reach none of its sources, given that each of these is
+-- settled and gets no row exactly if they do not reach it
 is_settled-reached : (desc : DescOf) (journal : List Entry) (deliveries : List DeliveryOf)
     (key : Key) → HasEarlierSources desc → IsLegal desc journal
     → is_settled desc journal key ≡ true
@@ -202,7 +202,7 @@ is_settled-reached desc journal deliveries key earlier legal settled each =
     (λ source. not (is_reached desc deliveries source)) sources each
     ∙ list_all-not (is_reached desc deliveries) sources
 
--- behind loads a partition is settled just where they reach none of its sources
+-- after loads a partition is settled exactly if they reach none of its sources
 is_settled-with_loads : (depth : ℕ) (desc : DescOf) (journal : List Entry)
     (deliveries : List DeliveryOf) (key : Key) → HasEarlierSources desc → IsLegal desc journal
     → ((key : Key) → is_part desc key ≡ true → is_settled desc journal key ≡ true)

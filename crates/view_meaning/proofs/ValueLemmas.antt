@@ -23,7 +23,7 @@ use Rattle.view_meaning.specs.Operations.{cut_to, filtered, meets}
 use Rattle.view_meaning.specs.Versions.{is_raw_kind}
 use Rattle.view_meaning.specs.Values.{value_over, value_within}
 
--- where some tables may be gone down through, the value is that over the tables one further down
+-- if some tables may be gone down through, the value is that over the tables one further down
 value_within-step : (desc : DescOf) (accepted : List DeliveryOf) (depth : ℕ) (key : Key)
     → 0 < depth
     → value_within depth desc accepted key
@@ -81,7 +81,7 @@ pub value_within-raw : (desc : DescOf) (accepted : List DeliveryOf) (depth : ℕ
 value_within-raw desc accepted depth key table some found raw =
     value_within-step desc accepted depth key some ∙ rw (found, raw) refl
 
--- the value of a filter's partition is what it makes of the rows of a run, where its source
+-- the value of a filter's partition is what it makes of the rows of a run, if its source
 -- partitions are that run
 pub value_within-filter : (desc : DescOf) (accepted : List DeliveryOf) (depth : ℕ) (key : Key)
     (table : TableOf) (src : Src) (conds : List Cond) (keep : List ℕ) (first count : ℕ)

@@ -1,4 +1,4 @@
--- The versions of a partition as its journal grows: they never fall, and they stay where nothing is
+-- The versions of a partition as its journal grows: they never fall, and they stay if nothing is
 -- loaded and the partition is not installed.
 use Rattle.std.proofs.Common.{◌≡◌, ◌∙◌, ℕ, ◌≤◌, List, [], ◌∷◌, ◌++◌, length, take, drop, get_or}
 use Rattle.std.proofs.Common.{refl, sym, ap, map, subst, inl, inr, arith}
@@ -27,7 +27,7 @@ install_places-append journal more key =
     ap (λ (found : List Entry). map place_of found) (filter-append (installs key) journal more)
     ∙ map-append place_of (filter (installs key) journal) (filter (installs key) more)
 
--- they stay where the second has none
+-- they stay if the second has none
 pub install_places-same : (journal more : List Entry) (key : Key) → install_places more key ≡ []
     → install_places (journal ++ more) key ≡ install_places journal key
 install_places-same journal more key none =
@@ -75,7 +75,7 @@ version-take-le desc count journal key =
     (take-append-drop count journal)
     (version-le desc (take count journal) (drop count journal) key)
 
--- it stays where nothing is loaded and the partition is not installed
+-- it stays if nothing is loaded and the partition is not installed
 pub version-same : (desc : DescOf) (journal more : List Entry) (key : Key)
     → accepted more ≡ [] → install_places more key ≡ []
     → version desc (journal ++ more) key ≡ version desc journal key
@@ -89,7 +89,7 @@ version-same desc journal more key no_load no_install =
     λ i. if is_raw (slice_get desc.tables key.table) then raw_version desc (loads i) key
     else length (places i)
 
--- the last install is the same one where the partition is not installed since
+-- the last install is the same one if the partition is not installed since
 pub last_place-same : (journal more : List Entry) (key : Key) → install_places more key ≡ []
     → last_place (journal ++ more) key ≡ last_place journal key
 last_place-same journal more key none =
@@ -125,7 +125,7 @@ last_place-Install journal key installed at same =
 abbrev pub seen : List Entry → Key → List Entry
 seen journal key = take (last_place journal key) journal
 
--- they are the same ones where the partition is not installed since
+-- they are the same ones if the partition is not installed since
 pub seen-same : (journal more : List Entry) (key : Key)
     → last_place journal key ≤ length journal → install_places more key ≡ []
     → seen (journal ++ more) key ≡ seen journal key
@@ -133,7 +133,7 @@ seen-same journal more key within none =
     ap (λ (place : ℕ). take place (journal ++ more)) (last_place-same journal more key none)
     ∙ take-append-le (last_place journal key) journal more within
 
--- what the last install recorded stays where the partition is not installed since
+-- what the last install recorded stays if the partition is not installed since
 pub recorded-same : (desc : DescOf) (journal more : List Entry) (key : Key)
     → last_place journal key ≤ length journal → install_places more key ≡ []
     → recorded desc (journal ++ more) key ≡ recorded desc journal key

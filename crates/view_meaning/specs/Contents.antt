@@ -16,13 +16,13 @@ use Rattle.view_meaning.specs.Versions.{touches, is_raw_kind, version, nth_place
 use Rattle.view_meaning.specs.Staleness.{is_settled}
 use Rattle.view_meaning.specs.Values.{joined, value}
 
--- the rows of the partition that a delivery keeps, where these were accepted before it
+-- the rows of the partition that a delivery keeps, if these were accepted before it
 abbrev pub rows_kept : DescOf → Key → List DeliveryOf → DeliveryOf → List (List Cell)
 rows_kept desc key before delivery =
     map (λ (row : DRow). row.cells) (filter (lies_in desc key) (kept_rows desc before delivery))
 
--- of each delivery that keeps a row in the partition those rows, where they were accepted one by
--- one behind those before
+-- of each delivery that keeps a row in the partition those rows, if they were accepted one by
+-- one after those before
 abbrev pub loads_kept : DescOf → Key → (before accepted : List DeliveryOf) → List (List (List Cell))
 loads_kept desc key before [] = []
 loads_kept desc key before (delivery ∷ later) =
@@ -37,7 +37,7 @@ abbrev pub raw_content : DescOf → List DeliveryOf → Key → (number : ℕ) �
 raw_content desc accepted key number =
     flat_map (λ rows. rows) (take number (loads_kept desc key [] accepted))
 
--- the content of the version of a view's partition that an install with this place made, where the
+-- the content of the version of a view's partition that an install with this place made, if the
 -- versions of the sources have these rows
 abbrev pub install_content : DescOf → (rows : Key → ℕ → List (List Cell)) → List Entry → Key
     → TableOf → (at : ℕ) → List (List Cell)
@@ -53,7 +53,7 @@ view_content desc rows journal key table zero = []
 view_content desc rows journal key table (suc number) =
     install_content desc rows journal key table (nth_place journal key number)
 
--- the content of a version of a partition of this table, where the versions of partitions of
+-- the content of a version of a partition of this table, if the versions of partitions of
 -- earlier tables have these rows
 abbrev pub content_over : DescOf → (rows : Key → ℕ → List (List Cell)) → List Entry → Key
     → (number : ℕ) → Option TableOf → List (List Cell)
@@ -73,7 +73,7 @@ content_within (suc depth) desc journal key number =
 abbrev pub content : DescOf → List Entry → Key → (number : ℕ) → List (List Cell)
 content desc journal key number = content_within (suc key.table) desc journal key number
 
--- where a partition is settled, the content of its latest version is its value from scratch over
+-- if a partition is settled, the content of its latest version is its value from scratch over
 -- all accepted deliveries
 abbrev pub HasSettledValues : Type 0
 HasSettledValues = (desc : DescOf) (journal : List Entry) (key : Key)

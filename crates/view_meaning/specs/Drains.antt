@@ -14,7 +14,7 @@ use Rattle.view_meaning.specs.Versions.{is_raw_kind}
 use Rattle.view_meaning.specs.Staleness.{is_settled}
 use Rattle.view_meaning.specs.LegalJournals.{IsLegal}
 
--- the partitions of a table with this number, by number, where it is a view
+-- the partitions of a table with this number, by number, if it is a view
 abbrev pub view_keys : (number : ℕ) → Option TableOf → List Key
 view_keys number None = []
 view_keys number (Some table) = if is_raw_kind table.kind then []

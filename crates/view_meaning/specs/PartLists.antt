@@ -29,7 +29,7 @@ has parts part = list_any (nat_eq part) parts
 abbrev pub lists_of : List (Vec ℕ Global) → List (List ℕ)
 lists_of lists = map (λ parts. parts.items) lists
 
--- the list of a table, and none behind the last
+-- the list of a table, and none after the last
 abbrev pub parts_at : List (List ℕ) → (table : ℕ) → List ℕ
 parts_at lists table = slice_index_or lists table []
 
@@ -63,7 +63,7 @@ abbrev pub AreInTime : DescOf → List (List ℕ) → Type 0
 AreInTime desc lists = (key : Key) → is_listed lists key ≡ true
     → start_of (table_width desc key.table) key.part < END
 
--- the partitions of a view with these numbers, and none where the table is raw
+-- the partitions of a view with these numbers, and none if the table is raw
 abbrev pub keys_of_view : (table : ℕ) → KindOf → List ℕ → List Key
 keys_of_view table kind parts = if is_raw_kind kind then [] else map (key_of table) parts
 
@@ -72,7 +72,7 @@ abbrev pub AllReached : DescOf → List DeliveryOf → List (List ℕ) → Type 
 AllReached desc deliveries lists = (table part : ℕ) → table < length lists
     → has (parts_at lists table) part ≡ is_reached desc deliveries (key_of table part)
 
--- the partitions of a table that deliveries reach, by number, where it is a view
+-- the partitions of a table that deliveries reach, by number, if it is a view
 abbrev pub reached_of : DescOf → List DeliveryOf → (table : ℕ) → List Key
 reached_of desc deliveries table =
     filter (is_reached desc deliveries) (view_keys table (slice_get desc.tables table))

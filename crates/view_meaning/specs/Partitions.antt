@@ -15,7 +15,7 @@ use Rattle.table_desc.specs.Sources.{table_width, kind_sources}
 abbrev pub start_of : ℕ → ℕ → ℕ
 start_of width part = part * width
 
--- the tick behind the last one of a partition
+-- the tick after the last one of a partition
 abbrev pub end_of : ℕ → ℕ → ℕ
 end_of width part = min (start_of width part + width) END
 
@@ -31,7 +31,7 @@ is_met width from to part = nat_lt (max (start_of width part) from) (min (end_of
 abbrev pub parts_met : (width from to : ℕ) → List ℕ
 parts_met width from to = filter (is_met width from to) (range_with_len 0 to)
 
--- the tick at a whole number, or the first one where it lies before time
+-- the tick at a whole number, or the first tick if it lies before time
 abbrev pub tick_at_least : ℤ → ℕ
 tick_at_least (pos tick) = tick
 tick_at_least (negsuc _) = 0

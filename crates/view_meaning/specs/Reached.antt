@@ -1,4 +1,4 @@
--- Which partitions new deliveries reach: those that get a row, and all that stand above one. Where
+-- Which partitions new deliveries reach: those that get a row, and all that stand above one. If
 -- all was settled before, these are the ones to be computed.
 use Rattle.std.specs.Prelude.{ℕ, zero, suc, ◌≡◌, List, ◌++◌, Bool, true, false, ◌||◌, filter, map}
 use Rattle.std.specs.List.{list_any}
@@ -33,7 +33,7 @@ is_reached desc deliveries key = is_reached_within (suc key.table) desc deliveri
 abbrev pub reached : DescOf → List DeliveryOf → List Key
 reached desc deliveries = filter (is_reached desc deliveries) (all_view_keys desc)
 
--- where each partition was settled, those that new deliveries reach are the unsettled ones
+-- if each partition was settled, those that new deliveries reach are the unsettled ones
 abbrev pub HasReachedUnsettled : Type 0
 HasReachedUnsettled = (desc : DescOf) (journal : List Entry) (deliveries : List DeliveryOf)
     → HasEarlierSources desc → IsLegal desc journal

@@ -9,7 +9,7 @@ use Rattle.table_desc.specs.Descriptions.{DescOf}
 abbrev pub is_late : DescOf → List DeliveryOf → DRow → Bool
 is_late desc before row = false
 
--- the rows that a delivery keeps, where these were accepted before it
+-- the rows that a delivery keeps, if these were accepted before it
 abbrev pub kept_rows : DescOf → List DeliveryOf → DeliveryOf → List DRow
 kept_rows desc before delivery = filter (λ row. not (is_late desc before row)) delivery.rows
 
@@ -17,7 +17,7 @@ kept_rows desc before delivery = filter (λ row. not (is_late desc before row)) 
 abbrev pub aside_rows : DescOf → List DeliveryOf → DeliveryOf → List DRow
 aside_rows desc before delivery = filter (is_late desc before) delivery.rows
 
--- the rows kept of deliveries that were accepted one by one behind those before
+-- the rows kept of deliveries that were accepted one by one after those before
 abbrev pub kept_after : DescOf → (before accepted : List DeliveryOf) → List DRow
 kept_after desc before [] = []
 kept_after desc before (delivery ∷ later) =

@@ -1,4 +1,4 @@
--- The value from scratch: what a partition's rows are by the accepted deliveries alone.
+-- The value from scratch: what a partition's rows are, by only the accepted deliveries.
 use Rattle.std.specs.Prelude.{ℕ, zero, suc, List, [], Option, Some, None, flat_map, slice_get}
 use Rattle.std.specs.Prelude.{if◌then◌else◌}
 use Rattle.depot_cell.specs.declared.cell.Cell.{Cell}
@@ -12,12 +12,12 @@ use Rattle.view_meaning.specs.RawValues.{raw_value}
 use Rattle.view_meaning.specs.Operations.{operation}
 use Rattle.view_meaning.specs.Versions.{is_raw_kind}
 
--- the rows of a source, joined in order of partition, where each partition has these rows
+-- the rows of a source, joined in order of partition, if each partition has these rows
 abbrev pub joined : DescOf → (rows : Key → List (List Cell)) → (width part : ℕ) → Src
     → List (List Cell)
 joined desc rows width part src = flat_map rows (keys_read desc width part src)
 
--- the value of a partition of this table, where the partitions of earlier tables have these rows
+-- the value of a partition of this table, if the partitions of earlier tables have these rows
 abbrev pub value_over : DescOf → List DeliveryOf → (rows : Key → List (List Cell)) → Key
     → Option TableOf → List (List Cell)
 value_over desc accepted rows key None = []

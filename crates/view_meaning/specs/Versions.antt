@@ -15,11 +15,11 @@ use Rattle.view_meaning.specs.Journal.{accepted}
 use Rattle.view_meaning.specs.SetAside.{kept_rows}
 use Rattle.view_meaning.specs.RawValues.{lies_in}
 
--- whether a delivery keeps a row in the partition, where these were accepted before it
+-- whether a delivery keeps a row in the partition, if these were accepted before it
 abbrev pub touches : DescOf → Key → List DeliveryOf → DeliveryOf → Bool
 touches desc key before delivery = list_any (lies_in desc key) (kept_rows desc before delivery)
 
--- how many of the deliveries that were accepted one by one behind those before keep a row in the
+-- how many of the deliveries that were accepted one by one after those before keep a row in the
 -- partition
 abbrev pub loads_after : DescOf → Key → (before accepted : List DeliveryOf) → ℕ
 loads_after desc key before [] = 0

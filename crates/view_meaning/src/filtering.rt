@@ -45,7 +45,7 @@ fn meets(row: &Row, cond: &Cond) -> bool
     }
 }
 
-/// The cell of a column, where the row has one.
+/// The cell of a column, if the row has one.
 fn cell_at(row: &Row, column: u16) -> Option<&Cell>
     ensures exact { option_copied result ≡ slice_get row.now column }
 {
@@ -63,7 +63,7 @@ fn cut_row(alloc: Global, keep: &[u16], row: &Row) -> Result<Row, Memory>
     Ok(cut)
 }
 
-/// Puts a copy of the row's cell of a column at the end, where the row has one.
+/// Puts a copy of the row's cell of a column at the end, if the row has one.
 fn push_cell(alloc: Global, row: &Row, column: u16, cut: &mut Row) -> Result<(), Memory>
     ensures ok { OnOk result (cut.new ≡ cut.old ++ cut_to (column ∷ []) row.now) }
 {

@@ -7,7 +7,7 @@ ghost use Rattle.view_meaning.specs.Installs.{HasInstallValues};
 ghost use Rattle.view_meaning.specs.Reached.{HasReachedUnsettled};
 ghost use Rattle.view_meaning.specs.Shown.{HasShownContents};
 
-/// A law: where a partition is settled, the content of its latest version is its value from
+/// A law: if a partition is settled, the content of its latest version is its value from
 /// scratch over all accepted deliveries.
 pub fn settled_is_value()
     ensures law { HasSettledValues }
@@ -34,7 +34,7 @@ pub fn drains_settle()
     ensures law { HasSettlingDrains }
 {}
 
-/// A law: where each partition was settled, those that new deliveries reach are the unsettled ones.
+/// A law: if each partition was settled, those that new deliveries reach are the unsettled ones.
 pub fn reached_are_unsettled()
     ensures law { HasReachedUnsettled }
 {}

@@ -33,8 +33,8 @@ pub fn parts_of_span(width: Width, from: u64, to: u64) -> Parts
     }
 }
 
-/// The partitions of a source that a view's partition reads. Where the span ends before it begins,
-/// or lies behind time, there are none.
+/// The partitions of a source that a view's partition reads. If the span ends before it begins,
+/// or lies after the end of time, there are none.
 pub(crate) fn parts_read(width: Width, source_width: Width, span: Span, part: u64) -> Parts
     ensures exact { source_parts width source_width span part
         ≡ range_with_len result.first result.count }
@@ -48,7 +48,7 @@ pub(crate) fn parts_read(width: Width, source_width: Width, span: Span, part: u6
     parts_of_span(source_width, from as u64, to as u64)
 }
 
-/// The tick so far behind the start of a partition, or the first one where it lies before time.
+/// The tick so far after the start of a partition, or the first tick if it lies before time.
 fn tick_after(width: Width, part: u128, offset: i64) -> u128
     requires { part ≤ 2 ^ 64 }
     ensures exact { result ≡ tick_at_least (pos (part * width) +ℤ offset) }

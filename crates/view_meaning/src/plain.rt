@@ -22,7 +22,7 @@ use table_desc::{DRow, Delivery, Desc, END, Key, Kind, Src, Table, Width};
 /// The rows of a partition. Of a raw table they are its rows, in order of acceptance, then of
 /// record; of a filter what it makes of the rows of its source. Groups and joins have no rows yet,
 /// and a key of no table has none. It goes over all accepted deliveries for each raw partition
-/// below, and again where a partition is read twice.
+/// below, and again if a partition is read twice.
 pub fn plain_value(
     alloc: Global,
     desc: &Desc,

@@ -255,7 +255,7 @@ fn sort_parts(parts: &mut Vec<u64>)
     parts.dedup();
 }
 
-/// Puts at the end the partitions with these numbers, where their table is a view.
+/// Puts at the end the partitions with these numbers, if their table is a view.
 fn push_view_keys(
     number: u16,
     table: &Table,

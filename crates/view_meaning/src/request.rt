@@ -14,7 +14,7 @@ pub enum Mark {
 }
 
 /// One part of a query: the partitions of a table that share a tick with `from` up to, but not
-/// including, `to`, but for those whose mark is below `level`.
+/// including, `to`, except those whose mark is below `level`.
 #[derive(Clone, Copy, Debug, PartialEq, Eq)]
 pub struct Item {
     pub table: u16,

@@ -1,4 +1,4 @@
-//! What no contract says: that each call succeeds where there is memory, and cases from outside.
+//! What no contract says: that each call succeeds if there is memory, and cases from outside.
 
 ghost use Rattle.std.specs.Prelude.{pos, ◌≡◌, ◌≤◌, ◌∷◌, [], IfOk, length};
 ghost use Rattle.table_desc.specs.Kinds.{kind_of};
