@@ -52,3 +52,14 @@ pub enum CellFault {
     NotUtf8,
     Memory,
 }
+
+impl From<Memory> for CellFault {
+    ghost use Rattle.std.specs.Prelude.{◌≡◌};
+    ghost use Rattle.depot_cell.specs.declared.cell.CellFault.TheVariants.{Memory as NoMemory};
+
+    ghost from_gives = { λ _ fault. fault ≡ NoMemory };
+
+    fn from(_refused: Memory) -> CellFault {
+        CellFault::Memory
+    }
+}

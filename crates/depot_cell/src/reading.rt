@@ -5,7 +5,6 @@ ghost use Rattle.std.specs.Str.{is_utf8};
 ghost use Rattle.depot_cell.specs.Reading.{Gives, cell_of, text_cell};
 
 use crate::cell::{Cell, CellFault, Ty};
-use crate::memory::Memory;
 use crate::number::read_int;
 use crate::short_text::Str;
 use std::alloc::Global;
@@ -34,10 +33,7 @@ fn read_text(alloc: Global, bytes: &[u8]) -> Result<Cell, CellFault>
     if !is_text(bytes) {
         return Err(CellFault::NotUtf8);
     }
-    match Str::from_bytes(alloc, bytes) {
-        Ok(text) => Ok(Cell::Text(text)),
-        Err(Memory) => Err(CellFault::Memory),
-    }
+    Ok(Cell::Text(Str::from_bytes(alloc, bytes)?))
 }
 
 fn is_text(bytes: &[u8]) -> bool

@@ -37,10 +37,9 @@ impl Row {
     pub fn with_capacity(alloc: Global, cells: usize) -> Result<Row, Memory>
         ensures { IfOk result (λ row. row ≡ []) }
     {
-        match Vec::with_capacity(alloc, cells) {
-            Ok(cells) => Ok(Row { cells }),
-            Err(_) => Err(Memory),
-        }
+        Ok(Row {
+            cells: Vec::with_capacity(alloc, cells)?,
+        })
     }
 
     /// The cells.
@@ -70,9 +69,7 @@ pub fn copy_row(alloc: Global, row: &Row) -> Result<Row, Memory>
 {
     let mut copy = Row::with_capacity(alloc, row.cells().len())?;
     for cell in row.cells() {
-        if copy.push(copy_cell(alloc, cell)?).is_err() {
-            return Err(Memory);
-        }
+        copy.push(copy_cell(alloc, cell)?)?;
     }
     Ok(copy)
 }

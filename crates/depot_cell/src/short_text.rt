@@ -36,10 +36,9 @@ impl Str {
         requires { IsShortText bytes.now }
         ensures { IfOk result (λ text. text ≡ bytes.now) }
     {
-        match Vec::from_slice(alloc, bytes) {
-            Ok(bytes) => Ok(Str { bytes }),
-            Err(_) => Err(Memory),
-        }
+        Ok(Str {
+            bytes: Vec::from_slice(alloc, bytes)?,
+        })
     }
 
     /// The bytes of the text.

@@ -14,20 +14,14 @@ pub fn cell_text(alloc: Global, cell: &Cell) -> Result<Vec<u8>, Memory>
 {
     match cell {
         Cell::Int(number) => int_text(alloc, *number),
-        Cell::Text(text) => match Vec::from_slice(alloc, text.as_bytes()) {
-            Ok(bytes) => Ok(bytes),
-            Err(_) => Err(Memory),
-        },
+        Cell::Text(text) => Ok(Vec::from_slice(alloc, text.as_bytes())?),
     }
 }
 
 fn int_text(alloc: Global, number: i64) -> Result<Vec<u8>, Memory>
     ensures exact { IfOk result (λ text. text.items ≡ signed_decimal number) }
 {
-    match number.to_string(alloc) {
-        Ok(text) => Ok(text.into_bytes()),
-        Err(_) => Err(Memory),
-    }
+    Ok(number.to_string(alloc)?.into_bytes())
 }
 
 /// A law: the text of a cell is read as that cell again.
