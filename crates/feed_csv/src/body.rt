@@ -62,9 +62,7 @@ fn read_records(
         }
         match read_row(alloc, desc, feed, number, &fields)? {
             Some(row) => {
-                if rows.push(row).is_err() {
-                    return Err(Memory);
-                }
+                rows.push(row)?;
             }
             None => return Ok(None),
         }
@@ -147,9 +145,7 @@ fn read_cells(alloc: Global, columns: &[Column], fields: &ByteRecord) -> Result<
         let Some(cell) = field_cell(alloc, column.ty, field)? else {
             return Ok(None);
         };
-        if cells.push(cell).is_err() {
-            return Err(Memory);
-        }
+        cells.push(cell)?;
     }
     Ok(Some(cells))
 }

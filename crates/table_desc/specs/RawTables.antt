@@ -6,7 +6,6 @@ use Rattle.table_desc.specs.declared.table.Column.{Column}
 use Rattle.table_desc.specs.Descriptions.{DescOf}
 use Rattle.table_desc.specs.Tables.{TableOf}
 use Rattle.table_desc.specs.KindValues.{Raw}
-use Rattle.table_desc.specs.Words.{words}
 use Rattle.table_desc.specs.Names.{find_feed}
 use Rattle.table_desc.specs.Columns.{are_columns, columns_of, find_time}
 

@@ -23,7 +23,7 @@ pub fn columns_of(alloc: Global, words: &[&[u8]]) -> Result<Option<Vec<Column>>,
     let mut columns = Vec::new(alloc);
     for word in words {
         match column_of(alloc, word)? {
-            Some(column) => push_column(&mut columns, column)?,
+            Some(column) => columns.push(column)?,
             None => return Ok(None),
         }
     }
@@ -109,19 +109,10 @@ pub fn kept_columns(
     let mut kept = Vec::new(alloc);
     for number in numbers {
         if let Some(column) = columns.get(usize::from(*number)) {
-            push_column(&mut kept, copy_column(alloc, column)?)?;
+            kept.push(copy_column(alloc, column)?)?;
         }
     }
     Ok(kept)
-}
-
-fn push_column(columns: &mut Vec<Column>, column: Column) -> Result<(), Memory>
-    ensures ok { OnOk result (columns.new.items ≡ columns.old.items ++ column ∷ []) }
-{
-    match columns.push(column) {
-        Ok(()) => Ok(()),
-        Err(_) => Err(Memory),
-    }
 }
 
 fn copy_column(alloc: Global, column: &Column) -> Result<Column, Memory>

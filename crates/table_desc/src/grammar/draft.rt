@@ -129,13 +129,11 @@ fn declare_feed(alloc: Global, desc: &mut Desc, keyword: &[u8], name: &[u8]) -> 
         return Ok(false);
     }
     let name = name_text(alloc, name)?;
-    match desc.feeds.push(Feed {
+    desc.feeds.push(Feed {
         name,
         header: false,
-    }) {
-        Ok(()) => Ok(true),
-        Err(_) => Err(Memory),
-    }
+    })?;
+    Ok(true)
 }
 
 fn declare_table(
@@ -195,10 +193,8 @@ fn push_table(desc: &mut Desc, table: Table) -> Result<(), Memory>
     ensures err { OnErr result (desc.new ≡ desc.old) }
     ensures served { IsServed desc.new }
 {
-    match desc.tables.push(table) {
-        Ok(()) => Ok(()),
-        Err(_) => Err(Memory),
-    }
+    desc.tables.push(table)?;
+    Ok(())
 }
 
 fn is_free(desc: &Desc, name: &[u8]) -> bool

@@ -42,7 +42,7 @@ pub fn read_selection(
     let mut words = words;
     while let [name, op, literal, next, others @ ..] = words {
         match cond_of(alloc, columns, name, op, literal)? {
-            Some(cond) => push_cond(&mut conds, cond)?,
+            Some(cond) => conds.push(cond)?,
             None => return Ok(None),
         }
         if is_word(next, b"keep") {
@@ -57,15 +57,6 @@ pub fn read_selection(
         words = others;
     }
     Ok(None)
-}
-
-fn push_cond(conds: &mut Vec<Cond>, cond: Cond) -> Result<(), Memory>
-    ensures ok { OnOk result (conds.new.items ≡ conds.old.items ++ cond ∷ []) }
-{
-    match conds.push(cond) {
-        Ok(()) => Ok(()),
-        Err(_) => Err(Memory),
-    }
 }
 
 fn cond_of(
@@ -123,10 +114,7 @@ fn find_columns(
     let mut numbers = Vec::new(alloc);
     for word in words {
         match find_column(columns, word) {
-            Some(number) => match numbers.push(number) {
-                Ok(()) => {}
-                Err(_) => return Err(Memory),
-            },
+            Some(number) => numbers.push(number)?,
             None => return Ok(None),
         }
     }

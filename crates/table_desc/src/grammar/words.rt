@@ -17,10 +17,7 @@ pub fn words_of<'a>(alloc: Global, line: &'a [u8]) -> Result<Vec<&'a [u8]>, Memo
     let words = line
         .split(|byte| is_blank(*byte))
         .filter(|word| !word.is_empty());
-    match words.collect(alloc) {
-        Ok(found) => Ok(found),
-        Err(_) => Err(Memory),
-    }
+    Ok(words.collect(alloc)?)
 }
 
 fn is_blank(byte: u8) -> bool

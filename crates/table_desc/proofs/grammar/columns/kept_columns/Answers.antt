@@ -1,17 +1,17 @@
 use Rattle.std.proofs.Common.{refl, sym}
 use Rattle.std.proofs.lemmas.Option.{slice_get_past, slice_get_read}
 use Rattle.table_desc.proofs.ColumnLemmas.{kept_columns-found, kept_columns-passed}
-use Rattle.table_desc.proofs.grammar.columns.kept_columns.Goals.{in-Some+in_ok-copy_column+in_ok-push_column, in_default}
+use Rattle.table_desc.proofs.grammar.columns.kept_columns.Goals.{in-Some+in_ok-copy_column+in_ok-push, in_default}
 use Rattle.table_desc.proofs.grammar.columns.kept_columns.Goals as goal
 
 pub loop-number-preserved : goal.loop-number-preserved
 loop-number-preserved c = elim c.match-get.branch [
-  | in-Some+in_ok-copy_column+in_ok-push_column w ↦
+  | in-Some+in_ok-copy_column+in_ok-push w ↦
       let found = slice_get_read c.args.columns.now _ c.from.result w.in-Some.column.now refl
       w.in-Some.ensures.lookup.3.0 w.in-Some.ensures.lookup.1 in
       rw (
         w.kept-is,
-        w.in_ok-push_column.ensures.ok,
+        w.in_ok-push.ensures.items,
         w.in_ok-copy_column.ensures.exact,
         c.loop-number.invariant,
       )

@@ -9,7 +9,7 @@ loop-words-preserved c =
     c.in-Some.cond c.in-len4-up.len_at_least (rw c.in-Some.is at c.in_ok-cond.ensures.exact)
     (sym c.is_word.ensures.exact ∙ c.if-is_word.false)
     (sym c.is_word-in-len4-up.ensures.exact ∙ c.if-not-is_word.false) in
-    rw (c.in_ok-push_cond-in-Some.ensures.ok, take_rest c.loop-words.words.now 4)
+    rw (c.in_ok-push-in-Some.ensures.items, take_rest c.loop-words.words.now 4)
     (sym step ∙ c.loop-words.invariant)
 
 pub returns : goal.returns

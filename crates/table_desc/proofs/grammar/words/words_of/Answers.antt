@@ -4,9 +4,9 @@ use Rattle.std.proofs.lemmas.Iterator.Splits.{YieldsList-from_slice_split}
 use Rattle.table_desc.specs.Words.{is_blank, is_empty}
 use Rattle.table_desc.proofs.grammar.words.words_of.Goals as goal
 
-pub returns-in-Ok : goal.returns-in-Ok
-returns-in-Ok c = record {
-  exact = map_from_collect {E = ℕ} (Ok c.in-Ok.found) c.in-Ok.ensures.ran
+pub returns : goal.returns
+returns c = record {
+  exact = map_from_collect {E = ℕ} (Ok c.in_ok-collect.field-0) c.in_ok-collect.ensures.ran
       (YieldsList-from_filter _ (λ word. not (is_empty word))
       (YieldsList-at c.filter-words.ensures.source
       (YieldsList-from_slice_split _ is_blank c.args.line.now c.split.ensures.rest
