@@ -1,10 +1,7 @@
 -- Lemmas on the rows of a body: cells and rows are read from the front, and `with_front` puts
 -- what was read before what the rest is.
 use Rattle.std.proofs.Common.{◌≡◌, ◌∙◌, ◌+◌, ◌<◌, ◌≤◌, ◌∷◌, ◌++◌, [], ℕ, zero, suc, List, Option, Some, None, drop, get_or, length, refl, sym, ap, true, false, arith}
-use Rattle.std.specs.Prelude.{◌&&◌, option_map}
-use Rattle.std.specs.Str.{bytes_eq}
-use Rattle.std.proofs.lemmas.List.Quantifiers.{position-Some}
-use Rattle.std.proofs.lemmas.Option.{slice_get_read}
+use Rattle.std.specs.Prelude.{option_map, slice_get}
 use Rattle.std.specs.Result.{result_ok}
 use Rattle.std.proofs.lemmas.List.{append-nil, drop_more}
 use Rattle.csv.specs.Reading.{ReadRecord}
@@ -17,7 +14,7 @@ use Rattle.table_desc.specs.declared.table.Column.{Column}
 use Rattle.table_desc.specs.declared.delivery.DRow.{DRow}
 use Rattle.table_desc.specs.Descriptions.{DescOf}
 use Rattle.table_desc.specs.Tables.{TableOf}
-use Rattle.feed_csv.specs.Bodies.{cells_of, is_raw_of, find_raw_table, records_of, row_of, rows_from, rows_of, table_cells}
+use Rattle.feed_csv.specs.Bodies.{cells_of, find_raw_table, records_of, row_of, rows_from, rows_of, table_cells}
 use Rattle.table_desc.specs.Front.{with_first}
 use Rattle.table_desc.proofs.FrontLemmas.{with_first-none, with_front, with_front-first, with_front-nil}
 use Rattle.feed_csv.proofs.CsvRecords.{Yields, Yields-end, Yields-more, records-short}
@@ -117,21 +114,14 @@ row_of-unnamed desc feed number fields name there none =
 
 -- a record whose first field names a raw table is the row that its other fields are there
 pub row_of-named : (desc : DescOf) (feed number : ℕ) (fields : List (List ℕ)) (name : List ℕ)
-    (place table : ℕ)
-    (declared : TableOf) (cells : Option (List Cell))
-    → Some name ≡ field_at fields 0 → Some place ≡ find_raw_table desc feed name → table ≡ place
-    → declared ≡ get_or desc.tables place declared
+    (table : ℕ) (declared : TableOf) (cells : Option (List Cell))
+    → Some name ≡ field_at fields 0 → Some table ≡ find_raw_table desc feed name
+    → slice_get desc.tables table ≡ Some declared
     → cells ≡ table_cells (Some declared) (drop 1 fields)
     → option_map (λ cells. record { number = number; table = table; cells = cells }) cells
     ≡ row_of desc feed number fields
-row_of-named desc feed number fields name place table declared cells there named same at_place
-    read =
-    let within : place < length desc.tables = (position-Some
-    (λ (table : TableOf). bytes_eq table.name name && is_raw_of feed table.kind)
-    desc.tables place declared (sym named)).0 in
-    let here =
-    slice_get_read desc.tables (length desc.tables) place declared refl within at_place in
-    rw (read, same, field_at-first fields name there, ← named, here) refl
+row_of-named desc feed number fields name table declared cells there named found read =
+    rw (read, field_at-first fields name there, ← named, found) refl
 
 -- the rows that were read, and those that the records to come are, are those of the body
 pub record ReadsRows {R : Type 0} (rem : R → Option (List ℕ)) (desc : DescOf) (feed : ℕ)

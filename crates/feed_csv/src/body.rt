@@ -3,7 +3,8 @@
 //! A body is CSV text without a header. The first field of a record names a raw table of the
 //! delivery's feed, the others are the row's cells. Records are numbered from 1.
 
-ghost use Rattle.std.specs.Prelude.{◌≡◌, ◌≤◌, IfOk, Some, drop, length, option_map, slice_get};
+ghost use Rattle.std.specs.Prelude.{◌≡◌, ◌<◌, ◌≤◌, ◌&&◌, IfOk, IfSome, Some, drop, length, option_map, position, slice_get};
+ghost use Rattle.std.specs.Str.{bytes_eq};
 ghost use Rattle.csv.specs.Reading.{reader_source};
 ghost use Rattle.csv.specs.Records.{fields_of};
 ghost use Rattle.depot_cell.specs.declared.cell.Cell.TheVariants.{Int};
@@ -14,19 +15,19 @@ ghost use Rattle.feed_csv.specs.Bodies.{BeginsBody, cells_of, is_in_time, is_raw
 use csv::{ByteRecord, Reader, ReaderBuilder};
 use depot_cell::{Cell, Memory, Row};
 use std::alloc::Global;
-use table_desc::{Column, DRow, Desc, END, Kind, Table, field_cell};
+use table_desc::{Column, DRow, END, Kind, Served, Table, field_cell, is_word};
 
 /// The rows of a body of up to 16,777,216 bytes, or `None` where some record is no row. The
 /// vector keeps no spare room.
 pub fn read_rows(
     alloc: Global,
-    desc: &Desc,
+    served: &Served,
     feed: u16,
     body: &[u8],
 ) -> Result<Option<Vec<DRow>>, Memory>
     requires { length body.now ≤ 16_777_216 }
     ensures exact { IfOk result (λ rows.
-        option_map (λ rows. rows.items) rows ≡ rows_of desc.now feed body.now) }
+        option_map (λ rows. rows.items) rows ≡ rows_of served.now.desc feed body.now) }
 {
     // The reader is moved into the function with the loop. Made beside the loop, its 16 KiB would
     // be cleared for each body before they are filled.
@@ -34,20 +35,20 @@ pub fn read_rows(
         .has_headers(false)
         .flexible(true)
         .from_reader(alloc, body);
-    read_records(alloc, desc, feed, reader)
+    read_records(alloc, served, feed, reader)
 }
 
 /// The rows of the records of a body, of which the reader has read nothing yet.
 fn read_records(
     alloc: Global,
-    desc: &Desc,
+    served: &Served,
     feed: u16,
     mut reader: Reader<&[u8]>,
 ) -> Result<Option<Vec<DRow>>, Memory>
     requires start { BeginsBody (λ text. Some text.now) (reader_source reader).now reader }
     requires few { length (reader_source reader).now ≤ 16_777_216 }
     ensures exact { IfOk result (λ rows. option_map (λ rows. rows.items) rows
-        ≡ rows_of desc.now feed (reader_source reader.entry).now) }
+        ≡ rows_of served.now.desc feed (reader_source reader.entry).now) }
 {
     let mut fields = ByteRecord::new(alloc);
     let mut rows = Vec::new(alloc);
@@ -60,7 +61,7 @@ fn read_records(
             }
             Err(_) => return Err(Memory),
         }
-        match read_row(alloc, desc, feed, number, &fields)? {
+        match read_row(alloc, served, feed, number, &fields)? {
             Some(row) => {
                 rows.push(row)?;
             }
@@ -70,27 +71,23 @@ fn read_records(
     unreachable!()
 }
 
-/// The row that the record with this number is, if it is one. A row has no room for a table's
-/// number from 65,536 on: there the answer is `Memory`.
+/// The row that the record with this number is, if it is one.
 fn read_row(
     alloc: Global,
-    desc: &Desc,
+    served: &Served,
     feed: u16,
     number: u32,
     fields: &ByteRecord,
 ) -> Result<Option<DRow>, Memory>
-    ensures exact { IfOk result (λ row. row ≡ row_of desc.now feed number (fields_of fields.now)) }
+    ensures exact { IfOk result (λ row. row ≡ row_of served.now.desc feed number (fields_of fields.now)) }
 {
     let Some(name) = fields.get(0) else {
         return Ok(None);
     };
-    let Some(place) = find_raw_table(desc, feed, name) else {
+    let Some(table) = find_raw_table(served, feed, name) else {
         return Ok(None);
     };
-    let Ok(table) = u16::try_from(place) else {
-        return Err(Memory);
-    };
-    match table_cells(alloc, &desc.tables[place], fields)? {
+    match table_cells(alloc, served.table(table), fields)? {
         Some(cells) => Ok(Some(DRow {
             number,
             table,
@@ -100,10 +97,23 @@ fn read_row(
     }
 }
 
-fn find_raw_table(desc: &Desc, feed: u16, name: &[u8]) -> Option<usize>
-    ensures exact { result ≡ find_raw_table desc.now feed name.now }
+/// The number of the feed's raw table with this name.
+fn find_raw_table(served: &Served, feed: u16, name: &[u8]) -> Option<u16>
+    ensures exact { result ≡ find_raw_table served.now.desc feed name.now }
+    ensures there { IfSome result (λ table. table < length served.now.desc.tables) }
 {
-    desc.tables.iter().position(|table| table.name.as_bytes() == name
+    match place_of_raw_table(&served.desc.tables, feed, name) {
+        Some(table) => Some(table as u16),
+        None => None,
+    }
+}
+
+fn place_of_raw_table(tables: &[Table], feed: u16, name: &[u8]) -> Option<usize>
+    ensures exact { result ≡
+        position (λ table. bytes_eq table.name name.now && is_raw_of feed table.kind) tables.now }
+    ensures there { IfSome result (λ table. table < length tables.now) }
+{
+    tables.iter().position(|table| is_word(table.name.as_bytes(), name)
         && is_raw_of(feed, &table.kind))
 }
 

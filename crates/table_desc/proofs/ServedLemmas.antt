@@ -1,5 +1,5 @@
--- A description stays served where one table is added: `IsServed-push`. The tables that lines say
--- may be added: `read_table-next`.
+-- A description stays served if one table is added: `IsServed-push`. The tables that lines say may
+-- be added: `read_table-next`.
 use Rattle.std.proofs.Common.{◌≡◌, ℕ, zero, suc, ◌<◌, ◌≤◌, ◌++◌, List, [], ◌∷◌, Option, Some, None, Bool, true, false, length, subst, ap, refl, arith, rules, tests}
 use Rattle.std.specs.Prelude.{All, slice_get, option_and_then, option_map, if◌then◌else◌, not, pos, codes}
 use Rattle.std.specs.Str.{bytes_eq}
@@ -84,6 +84,15 @@ IsServed-push desc table served room next = record {
       (earlier-there desc number other served.earlier there) (served.aligned number other there))
       (aligned-push desc table table.width (kind_sources table.kind) next.earlier next.aligned);
 }
+
+-- so does a push that may be refused
+pub IsServed-pushed : (desc : DescOf) (table : TableOf) (tables : List TableOf) (is_pushed : Bool)
+    → IsServed desc → length desc.tables < 64 → IsNextTable desc table
+    → tables ≡ (if is_pushed then desc.tables ++ table ∷ [] else desc.tables)
+    → IsServed (record desc { tables = tables })
+IsServed-pushed desc table tables true served room next made =
+    rw made (IsServed-push desc table served room next)
+IsServed-pushed desc table tables false served room next made = rw made served
 
 -- the columns of a table are at most 16
 are_columns-few : (columns : List Column) → are_columns columns ≡ true → length columns ≤ 16

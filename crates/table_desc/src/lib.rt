@@ -8,6 +8,7 @@
 
 mod delivery;
 mod grammar;
+mod served;
 mod table;
 mod time;
 mod view;
@@ -17,6 +18,7 @@ pub use grammar::{
     Draft, begins_comment, field_cell, find_feed, find_table, is_go, is_name, is_skipped, is_word,
     words_of,
 };
+pub use served::Served;
 pub use table::{Column, Desc, Feed, Key, Table};
 pub use time::{END, Span, Width};
 pub use view::{Agg, Cond, Fun, Kind, Pair, Src};

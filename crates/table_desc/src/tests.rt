@@ -75,9 +75,9 @@ fn description_is_read(rt: HostRuntime) -> Result<(), Fail> {
     let alloc = rt.alloc();
     let draft = draft_of(alloc, &["# an example", "", FEED, RAW, VIEW])?;
     assert_eq!(rt; draft.bad(), None);
-    let desc = draft.into_desc();
-    assert_eq!(rt; desc.feeds.len(), 1);
-    match desc.tables.as_slice() {
+    let served = draft.into_served();
+    assert_eq!(rt; served.desc.feeds.len(), 1);
+    match served.desc.tables.as_slice() {
         [raw, view] => {
             assert_eq!(rt; raw.width.ticks(), 10);
             assert_eq!(rt; raw.columns.len(), 3);

@@ -2,7 +2,7 @@
 
 ghost use Rattle.std.specs.Prelude.{◌≡◌, ◌<◌, ◌^◌, ◌+◌, [], ◌∷◌, ◌++◌, is_some, length, map, unwrap_or, IfOk, IsTrue, OnErr, OnOk};
 ghost use Rattle.std.specs.Bool.{OnTrue};
-ghost use Rattle.table_desc.specs.Served.{IsNextTable, IsServed};
+ghost use Rattle.table_desc.specs.Served.{IsNextTable};
 ghost use Rattle.table_desc.specs.Names.{is_name};
 ghost use Rattle.table_desc.specs.Grammar.{Described, declared_by, is_free, nothing_described, read_table, with_declared, with_feed, with_line, with_table};
 
@@ -10,7 +10,7 @@ use crate::grammar::filter::read_filter;
 use crate::grammar::names::{find_table, is_name, name_text};
 use crate::grammar::raw_table::read_raw_table;
 use crate::grammar::words::{is_skipped, is_word, words_of};
-use crate::{Desc, Feed, Table};
+use crate::{Desc, Feed, Served, Table};
 use depot_cell::Memory;
 use std::alloc::Global;
 use std::marker::Model;
@@ -22,20 +22,21 @@ const MOST_TABLES: usize = 64;
 /// [`Draft::add_line`], and ask at the end whether one was bad.
 #[derive(Debug, Drop)]
 pub struct Draft {
-    desc: Desc,
+    served: Served,
     lines: u64,
     bad: Option<u64>,
 }
 
 impl Model for Draft {
-    ghost use Rattle.table_desc.specs.Served.{IsServed};
     ghost use Rattle.table_desc.specs.Grammar.{Described};
 
     ghost Value = { Described };
 
-    ghost view = { λ draft. record { desc = draft.desc; lines = draft.lines; bad = draft.bad } };
-
-    ghost invariant = { λ draft. IsServed draft.desc };
+    ghost view = { λ draft. record {
+      desc = draft.served.desc;
+      lines = draft.lines;
+      bad = draft.bad;
+    } };
 }
 
 impl Draft {
@@ -44,10 +45,7 @@ impl Draft {
         ensures exact { result ≡ nothing_described }
     {
         Draft {
-            desc: Desc {
-                feeds: Vec::new(alloc),
-                tables: Vec::new(alloc),
-            },
+            served: no_desc(alloc),
             lines: 0,
             bad: None,
         }
@@ -76,7 +74,7 @@ impl Draft {
         ensures counted { OnOk result (self.new.lines ≡ self.old.lines + 1) }
         ensures err { OnErr result (self.new ≡ self.old) }
     {
-        let is_declared = declare(alloc, &mut self.desc, words)?;
+        let is_declared = declare(alloc, &mut self.served, words)?;
         self.lines += 1;
         if !is_declared {
             self.bad = Some(self.lines);
@@ -91,45 +89,57 @@ impl Draft {
         self.bad
     }
 
-    /// What the lines before the first bad one declare: at most one feed, and at most 64 tables.
-    pub fn into_desc(self) -> Desc
-        ensures exact { result ≡ self.desc }
-        ensures served { IsServed result }
+    /// What the lines before the first bad one declare.
+    pub fn into_served(self) -> Served
+        ensures exact { result.desc ≡ self.desc }
     {
-        self.desc
+        self.served
     }
 }
 
-fn declare(alloc: Global, desc: &mut Desc, words: &[&[u8]]) -> Result<bool, Memory>
-    requires served { IsServed desc.old }
+/// The description that has nothing.
+fn no_desc(alloc: Global) -> Served
+    ensures exact { result.desc ≡ nothing_described.desc }
+{
+    Served {
+        desc: Desc {
+            feeds: Vec::new(alloc),
+            tables: Vec::new(alloc),
+        },
+    }
+}
+
+fn declare(alloc: Global, served: &mut Served, words: &[&[u8]]) -> Result<bool, Memory>
     ensures told { IfOk result (λ told. told ≡
-        is_some (declared_by desc.old (map (λ word. word.now) words.now))) }
-    ensures ok { OnOk result (desc.new ≡
-        unwrap_or (declared_by desc.old (map (λ word. word.now) words.now)) desc.old) }
-    ensures err { OnErr result (desc.new ≡ desc.old) }
-    ensures served { IsServed desc.new }
+        is_some (declared_by served.old.desc (map (λ word. word.now) words.now))) }
+    ensures ok { OnOk result (served.new.desc ≡
+        unwrap_or (declared_by served.old.desc (map (λ word. word.now) words.now)) served.old.desc) }
+    ensures err { OnErr result (served.new.desc ≡ served.old.desc) }
 {
     match words {
-        [keyword, name] => declare_feed(alloc, desc, keyword, name),
-        [keyword, name, words @ ..] => declare_table(alloc, desc, keyword, name, words),
+        [keyword, name] => declare_feed(alloc, served, keyword, name),
+        [keyword, name, words @ ..] => declare_table(alloc, served, keyword, name, words),
         _ => Ok(false),
     }
 }
 
-fn declare_feed(alloc: Global, desc: &mut Desc, keyword: &[u8], name: &[u8]) -> Result<bool, Memory>
-    requires served { IsServed desc.old }
+fn declare_feed(
+    alloc: Global,
+    served: &mut Served,
+    keyword: &[u8],
+    name: &[u8],
+) -> Result<bool, Memory>
     ensures told { IfOk result (λ told. told ≡
-        is_some (declared_by desc.old (keyword.now ∷ name.now ∷ []))) }
-    ensures ok { OnOk result (desc.new ≡
-        unwrap_or (declared_by desc.old (keyword.now ∷ name.now ∷ [])) desc.old) }
-    ensures err { OnErr result (desc.new ≡ desc.old) }
-    ensures served { IsServed desc.new }
+        is_some (declared_by served.old.desc (keyword.now ∷ name.now ∷ []))) }
+    ensures ok { OnOk result (served.new.desc ≡
+        unwrap_or (declared_by served.old.desc (keyword.now ∷ name.now ∷ [])) served.old.desc) }
+    ensures err { OnErr result (served.new.desc ≡ served.old.desc) }
 {
-    if !is_word(keyword, b"feed") || !desc.feeds.is_empty() || !is_name(name) {
+    if !is_word(keyword, b"feed") || !served.desc.feeds.is_empty() || !is_name(name) {
         return Ok(false);
     }
     let name = name_text(alloc, name)?;
-    desc.feeds.push(Feed {
+    served.desc.feeds.push(Feed {
         name,
         header: false,
     })?;
@@ -138,25 +148,23 @@ fn declare_feed(alloc: Global, desc: &mut Desc, keyword: &[u8], name: &[u8]) -> 
 
 fn declare_table(
     alloc: Global,
-    desc: &mut Desc,
+    served: &mut Served,
     keyword: &[u8],
     name: &[u8],
     words: &[&[u8]],
 ) -> Result<bool, Memory>
-    requires served { IsServed desc.old }
-    ensures told { IfOk result (λ told. told ≡ is_some (with_table desc.old name.now
-        (read_table desc.old keyword.now name.now (map (λ word. word.now) words.now)))) }
-    ensures ok { OnOk result (desc.new ≡ unwrap_or (with_table desc.old name.now
-        (read_table desc.old keyword.now name.now (map (λ word. word.now) words.now))) desc.old) }
-    ensures err { OnErr result (desc.new ≡ desc.old) }
-    ensures served { IsServed desc.new }
+    ensures told { IfOk result (λ told. told ≡ is_some (with_table served.old.desc name.now
+        (read_table served.old.desc keyword.now name.now (map (λ word. word.now) words.now)))) }
+    ensures ok { OnOk result (served.new.desc ≡ unwrap_or (with_table served.old.desc name.now
+        (read_table served.old.desc keyword.now name.now (map (λ word. word.now) words.now))) served.old.desc) }
+    ensures err { OnErr result (served.new.desc ≡ served.old.desc) }
 {
-    if !is_free(desc, name) {
+    if !is_free(served, name) {
         return Ok(false);
     }
-    match read_table(alloc, desc, keyword, name, words)? {
+    match read_table(alloc, served, keyword, name, words)? {
         Some(table) => {
-            push_table(desc, table)?;
+            push_table(served, table)?;
             Ok(true)
         }
         None => Ok(false),
@@ -165,42 +173,38 @@ fn declare_table(
 
 fn read_table(
     alloc: Global,
-    desc: &Desc,
+    served: &Served,
     keyword: &[u8],
     name: &[u8],
     words: &[&[u8]],
 ) -> Result<Option<Table>, Memory>
-    requires served { IsServed desc.now }
     requires named { IsTrue (is_name name.now) }
     ensures exact { IfOk result (λ table. table ≡
-        read_table desc.now keyword.now name.now (map (λ word. word.now) words.now)) }
+        read_table served.now.desc keyword.now name.now (map (λ word. word.now) words.now)) }
 {
     if is_word(keyword, b"raw") {
-        read_raw_table(alloc, desc, name, words)
+        read_raw_table(alloc, served, name, words)
     } else if is_word(keyword, b"view") {
-        read_filter(alloc, desc, name, words)
+        read_filter(alloc, served, name, words)
     } else {
         Ok(None)
     }
 }
 
-fn push_table(desc: &mut Desc, table: Table) -> Result<(), Memory>
-    requires served { IsServed desc.old }
-    requires room { length desc.old.tables < 64 }
-    requires next { IsNextTable desc.old table }
-    ensures ok { OnOk result (desc.new ≡
-        record desc.old { tables = desc.old.tables ++ table ∷ [] }) }
-    ensures err { OnErr result (desc.new ≡ desc.old) }
-    ensures served { IsServed desc.new }
+fn push_table(served: &mut Served, table: Table) -> Result<(), Memory>
+    requires room { length served.old.desc.tables < 64 }
+    requires next { IsNextTable served.old.desc table }
+    ensures ok { OnOk result (served.new.desc ≡
+        record served.old.desc { tables = served.old.desc.tables ++ table ∷ [] }) }
+    ensures err { OnErr result (served.new.desc ≡ served.old.desc) }
 {
-    desc.tables.push(table)?;
+    served.desc.tables.push(table)?;
     Ok(())
 }
 
-fn is_free(desc: &Desc, name: &[u8]) -> bool
-    requires served { IsServed desc.now }
-    ensures exact { result ≡ is_free desc.now name.now }
-    ensures room { OnTrue result (length desc.now.tables < 64) }
+fn is_free(served: &Served, name: &[u8]) -> bool
+    ensures exact { result ≡ is_free served.now.desc name.now }
+    ensures room { OnTrue result (length served.now.desc.tables < 64) }
 {
-    is_name(name) && find_table(desc, name).is_none() && desc.tables.len() < MOST_TABLES
+    is_name(name) && find_table(served, name).is_none() && served.desc.tables.len() < MOST_TABLES
 }

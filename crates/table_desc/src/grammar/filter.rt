@@ -2,7 +2,6 @@
 
 ghost use Rattle.std.specs.Prelude.{◌≡◌, ◌≤◌, length, map, IfOk, IsTrue, Some};
 ghost use Rattle.std.specs.Str.{bytes_eq};
-ghost use Rattle.table_desc.specs.Served.{IsServed};
 ghost use Rattle.table_desc.specs.Names.{is_name};
 ghost use Rattle.table_desc.specs.Filters.{filter_over, filter_from, read_filter, filter_table, is_filter, is_multiple, is_no_offset, reads_few, unsigned};
 
@@ -11,7 +10,7 @@ use crate::grammar::names::{find_table, name_text};
 use crate::grammar::raw_table::read_width;
 use crate::grammar::selection::{Selection, read_selection};
 use crate::grammar::words::is_word;
-use crate::{Desc, Kind, Span, Src, Table, Width};
+use crate::{Kind, Served, Span, Src, Table, Width};
 use depot_cell::{Memory, read_number};
 use std::alloc::Global;
 
@@ -28,19 +27,18 @@ const OWN_TICKS: Span = Span { lo: 0, hi: 0 };
 /// `width W filter S LO HI where C OP LIT [and C OP LIT ..] keep C ..`.
 pub fn read_filter(
     alloc: Global,
-    desc: &Desc,
+    served: &Served,
     name: &[u8],
     words: &[&[u8]],
 ) -> Result<Option<Table>, Memory>
-    requires served { IsServed desc.now }
     requires named { IsTrue (is_name name.now) }
     ensures exact { IfOk result (λ table.
-        table ≡ read_filter desc.now name.now (map (λ word. word.now) words.now)) }
+        table ≡ read_filter served.now.desc name.now (map (λ word. word.now) words.now)) }
 {
     match words {
         [width, ticks, filter, source, lo, hi, given, words @ ..] => {
             if is_filter(width, filter, lo, hi, given) {
-                filter_from(alloc, desc, name, ticks, source, words)
+                filter_from(alloc, served, name, ticks, source, words)
             } else {
                 Ok(None)
             }
@@ -80,26 +78,18 @@ fn unsigned(word: &[u8]) -> &[u8]
 
 fn filter_from(
     alloc: Global,
-    desc: &Desc,
+    served: &Served,
     name: &[u8],
     ticks: &[u8],
     source: &[u8],
     words: &[&[u8]],
 ) -> Result<Option<Table>, Memory>
-    requires served { IsServed desc.now }
     requires named { IsTrue (is_name name.now) }
-    ensures exact { IfOk result (λ table. table ≡ filter_from desc.now name.now
+    ensures exact { IfOk result (λ table. table ≡ filter_from served.now.desc name.now
         ticks.now source.now (map (λ word. word.now) words.now)) }
 {
-    match find_table(desc, source) {
-        Some(source) => filter_over(
-            alloc,
-            name,
-            ticks,
-            words,
-            source,
-            &desc.tables[usize::from(source)],
-        ),
+    match find_table(served, source) {
+        Some(source) => filter_over(alloc, name, ticks, words, source, served.table(source)),
         None => Ok(None),
     }
 }

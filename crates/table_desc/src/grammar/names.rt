@@ -3,11 +3,10 @@
 ghost use Rattle.std.specs.Prelude.{◌≡◌, ◌<◌, length, position, IfOk, IfSome, IsTrue};
 ghost use Rattle.std.specs.Str.{bytes_eq};
 ghost use Rattle.std.specs.List.{list_all, list_any};
-ghost use Rattle.table_desc.specs.Served.{IsServed};
 ghost use Rattle.table_desc.specs.Names.{begins_name, find_feed, is_letter, is_name, is_name_byte, reserved, find_table};
 
 use crate::grammar::words::is_word;
-use crate::{Desc, Feed, Table};
+use crate::{Feed, Served, Table};
 use depot_cell::{Memory, Str};
 use std::alloc::Global;
 
@@ -70,11 +69,10 @@ pub fn name_text(alloc: Global, name: &[u8]) -> Result<Str, Memory>
 }
 
 /// The number of the feed with this name.
-pub fn find_feed(desc: &Desc, name: &[u8]) -> Option<u16>
-    requires served { IsServed desc.now }
-    ensures exact { result ≡ find_feed desc.now name.now }
+pub fn find_feed(served: &Served, name: &[u8]) -> Option<u16>
+    ensures exact { result ≡ find_feed served.now.desc name.now }
 {
-    match place_of_feed(&desc.feeds, name) {
+    match place_of_feed(&served.desc.feeds, name) {
         Some(feed) => Some(feed as u16),
         None => None,
     }
@@ -90,12 +88,11 @@ fn place_of_feed(feeds: &[Feed], name: &[u8]) -> Option<usize>
 }
 
 /// The number of the table with this name.
-pub fn find_table(desc: &Desc, name: &[u8]) -> Option<u16>
-    requires served { IsServed desc.now }
-    ensures exact { result ≡ find_table desc.now name.now }
-    ensures there { IfSome result (λ table. table < length desc.now.tables) }
+pub fn find_table(served: &Served, name: &[u8]) -> Option<u16>
+    ensures exact { result ≡ find_table served.now.desc name.now }
+    ensures there { IfSome result (λ table. table < length served.now.desc.tables) }
 {
-    match place_of_table(&desc.tables, name) {
+    match place_of_table(&served.desc.tables, name) {
         Some(table) => Some(table as u16),
         None => None,
     }

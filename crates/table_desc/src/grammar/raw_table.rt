@@ -2,28 +2,26 @@
 
 ghost use Rattle.std.specs.Prelude.{◌≡◌, map, IfOk, IsTrue};
 ghost use Rattle.std.specs.Str.{bytes_eq};
-ghost use Rattle.table_desc.specs.Served.{IsServed};
 ghost use Rattle.table_desc.specs.Names.{is_name};
 ghost use Rattle.table_desc.specs.RawTables.{are_raw_keywords, raw_table_from, read_raw_table, raw_table, read_width};
 
 use crate::grammar::columns::{are_columns, columns_of, find_time};
 use crate::grammar::names::{find_feed, name_text};
 use crate::grammar::words::is_word;
-use crate::{Column, Desc, END, Kind, Table, Width};
+use crate::{Column, END, Kind, Served, Table, Width};
 use depot_cell::{Memory, read_number};
 use std::alloc::Global;
 
 /// The raw table with this name that words say: `feed F width W time C cols C:TYPE ..`.
 pub fn read_raw_table(
     alloc: Global,
-    desc: &Desc,
+    served: &Served,
     name: &[u8],
     words: &[&[u8]],
 ) -> Result<Option<Table>, Memory>
-    requires served { IsServed desc.now }
     requires named { IsTrue (is_name name.now) }
     ensures exact { IfOk result (λ table.
-        table ≡ read_raw_table desc.now name.now (map (λ word. word.now) words.now)) }
+        table ≡ read_raw_table served.now.desc name.now (map (λ word. word.now) words.now)) }
 {
     match words {
         [
@@ -37,7 +35,7 @@ pub fn read_raw_table(
             columns @ ..,
         ] => {
             if are_raw_keywords(feed, width, time, cols) {
-                raw_table_from(alloc, desc, name, of_feed, ticks, of_time, columns)
+                raw_table_from(alloc, served, name, of_feed, ticks, of_time, columns)
             } else {
                 Ok(None)
             }
@@ -57,42 +55,40 @@ fn are_raw_keywords(feed: &[u8], width: &[u8], time: &[u8], cols: &[u8]) -> bool
 
 fn raw_table_from(
     alloc: Global,
-    desc: &Desc,
+    served: &Served,
     name: &[u8],
     feed: &[u8],
     width: &[u8],
     time: &[u8],
     columns: &[&[u8]],
 ) -> Result<Option<Table>, Memory>
-    requires served { IsServed desc.now }
     requires named { IsTrue (is_name name.now) }
-    ensures exact { IfOk result (λ table. table ≡ raw_table_from desc.now name.now
+    ensures exact { IfOk result (λ table. table ≡ raw_table_from served.now.desc name.now
         feed.now width.now time.now (map (λ word. word.now) columns.now)) }
 {
     match columns_of(alloc, columns)? {
-        Some(columns) => raw_table(alloc, desc, name, feed, width, time, columns),
+        Some(columns) => raw_table(alloc, served, name, feed, width, time, columns),
         None => Ok(None),
     }
 }
 
 fn raw_table(
     alloc: Global,
-    desc: &Desc,
+    served: &Served,
     name: &[u8],
     feed: &[u8],
     width: &[u8],
     time: &[u8],
     columns: Vec<Column>,
 ) -> Result<Option<Table>, Memory>
-    requires served { IsServed desc.now }
     requires named { IsTrue (is_name name.now) }
     ensures exact { IfOk result (λ table. table ≡
-        raw_table desc.now name.now feed.now width.now time.now columns.items) }
+        raw_table served.now.desc name.now feed.now width.now time.now columns.items) }
 {
     if !are_columns(&columns) {
         return Ok(None);
     }
-    let Some(feed) = find_feed(desc, feed) else {
+    let Some(feed) = find_feed(served, feed) else {
         return Ok(None);
     };
     let Some(width) = read_width(width) else {

@@ -6,5 +6,5 @@ use Rattle.feed_csv.proofs.body.read_records.Given as goal
 
 abbrev pub invariant-loop-number : goal.invariant-loop-number
 invariant-loop-number l =
-    ReadsRows (λ text. Some text.now) l.fn.desc l.fn.feed (reader_source l.fn.reader).now
+    ReadsRows (λ text. Some text.now) l.fn.served.desc l.fn.feed (reader_source l.fn.reader).now
     l.reader l.number l.rows.items

@@ -1,20 +1,18 @@
-use Rattle.std.proofs.Common.{◌≡◌, Some, None, length, ap, arith}
-use Rattle.std.proofs.lemmas.Grind.{common_steps}
+use Rattle.std.proofs.Common.{Some, None, length, ap, arith}
 use Rattle.csv.specs.Records.{fields_of}
-use Rattle.table_desc.specs.Descriptions.{DescOf}
 use Rattle.feed_csv.proofs.BodyLemmas.{field_at-first, row_of-empty, row_of-named, row_of-unnamed}
 use Rattle.feed_csv.proofs.body.read_row.Goals as goal
 
 pub returns-in_default : goal.returns-in_default
 returns-in_default c = record {
-  exact = row_of-empty c.args.desc.now c.args.feed c.args.number (fields_of c.args.fields.now)
-      (rw c.in_default.is at c.get.ensures.value);
+  exact = row_of-empty c.args.served.now.desc c.args.feed c.args.number
+      (fields_of c.args.fields.now) (rw c.in_default.is at c.get.ensures.value);
 }
 
 pub returns-in_default-find_raw_table : goal.returns-in_default-find_raw_table
 returns-in_default-find_raw_table c = record {
-  exact = row_of-unnamed c.args.desc.now c.args.feed c.args.number (fields_of c.args.fields.now)
-      c.in-Some.name.now c.in-Some.ensures.value
+  exact = row_of-unnamed c.args.served.now.desc c.args.feed c.args.number
+      (fields_of c.args.fields.now) c.in-Some.name.now c.in-Some.ensures.value
       (rw c.in_default-find_raw_table.is at c.find_raw_table.ensures.exact);
 }
 
@@ -25,23 +23,19 @@ table_cells-requires c =
     record { named = omega arith }
 
 pub returns-in-Some-2 : goal.returns-in-Some-2
-returns-in-Some-2 c =
-    let same : c.in-Ok.table ≡ c.in-Some-find_raw_table.place = grind (arith, common_steps) in
-    record {
-      exact = row_of-named c.args.desc.now c.args.feed c.args.number (fields_of c.args.fields.now)
-          c.in-Some.name.now c.in-Some-find_raw_table.place c.in-Ok.table c.index.result.now
-          (Some c.in-Some-2.cells) c.in-Some.ensures.value c.in-Some-find_raw_table.ensures.exact same
-          (rw (ap (λ (desc : DescOf). desc.tables) c.desc.view_is) at c.index.ensures)
-          (rw c.in-Some-2.is at c.in_ok-cells.ensures.exact);
-    }
+returns-in-Some-2 c = record {
+  exact = row_of-named c.args.served.now.desc c.args.feed c.args.number
+      (fields_of c.args.fields.now) c.in-Some.name.now c.in-Some-find_raw_table.table
+      c.table.result.now (Some c.in-Some-2.cells) c.in-Some.ensures.value
+      c.in-Some-find_raw_table.ensures.exact c.table.ensures.exact
+      (rw c.in-Some-2.is at c.in_ok-cells.ensures.exact);
+}
 
 pub returns-in-None : goal.returns-in-None
-returns-in-None c =
-    let same : c.in-Ok.table ≡ c.in-Some-find_raw_table.place = grind (arith, common_steps) in
-    record {
-      exact = row_of-named c.args.desc.now c.args.feed c.args.number (fields_of c.args.fields.now)
-          c.in-Some.name.now c.in-Some-find_raw_table.place c.in-Ok.table c.index.result.now None
-          c.in-Some.ensures.value c.in-Some-find_raw_table.ensures.exact same
-          (rw (ap (λ (desc : DescOf). desc.tables) c.desc.view_is) at c.index.ensures)
-          (rw c.in-None.is at c.in_ok-cells.ensures.exact);
-    }
+returns-in-None c = record {
+  exact = row_of-named c.args.served.now.desc c.args.feed c.args.number
+      (fields_of c.args.fields.now) c.in-Some.name.now c.in-Some-find_raw_table.table
+      c.table.result.now None c.in-Some.ensures.value
+      c.in-Some-find_raw_table.ensures.exact c.table.ensures.exact
+      (rw c.in-None.is at c.in_ok-cells.ensures.exact);
+}

@@ -5,12 +5,12 @@ use Rattle.table_desc.proofs.grammar.filter.read_filter.Goals as goal
 
 pub returns-in_default : goal.returns-in_default
 returns-in_default c = record {
-  exact = sym (read_filter-few c.args.desc.now c.args.name.now c.args.words.now
+  exact = sym (read_filter-few c.args.served.now.desc c.args.name.now c.args.words.now
       c.in_default.len_below);
 }
 
 pub returns-then-is_filter : goal.returns-then-is_filter
 returns-then-is_filter c =
-    let said = read_filter-more c.args.desc.now c.args.name.now c.args.words.now _
+    let said = read_filter-more c.args.served.now.desc c.args.name.now c.args.words.now _
     c.in-len7-up.len_at_least (sym c.if-is_filter.ensures.exact) in
     record { exact = rw (said, ← take_rest c.args.words.now 7) c.filter_from.ensures.exact }
