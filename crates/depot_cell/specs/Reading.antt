@@ -7,6 +7,7 @@ use Rattle.depot_cell.specs.declared.cell.Ty.{Ty}
 use Rattle.depot_cell.specs.declared.cell.Ty.TheVariants as ty
 use Rattle.depot_cell.specs.declared.cell.CellFault.{CellFault}
 use Rattle.depot_cell.specs.declared.cell.CellFault.TheVariants.{BadInt, LongText, NotUtf8, Memory}
+use Rattle.depot_cell.specs.Cells.{IsCell, ty_of}
 use Rattle.depot_cell.specs.Numbers.{int_of}
 
 -- the cell of an int that was read
@@ -38,3 +39,13 @@ Gives (Err BadInt) reading = reading ≡ Err BadInt
 Gives (Err LongText) reading = reading ≡ Err LongText
 Gives (Err NotUtf8) reading = reading ≡ Err NotUtf8
 Gives (Err Memory) reading = IsOwning reading
+
+-- a cell of this type that there can be
+pub record IsCellOf (ty : Ty) (cell : Cell) : Type 0 where
+  pub typed : ty_of cell ≡ ty
+  pub is_cell : IsCell cell
+
+-- what bytes are read as is a cell of the type: an int in range, or a short text
+abbrev pub GivesCells : Type 0
+GivesCells = (ty : Ty) (bytes : List ℕ) (cell : Cell) → cell_of ty bytes ≡ Ok cell
+    → IsCellOf ty cell

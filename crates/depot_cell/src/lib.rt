@@ -20,7 +20,7 @@ pub use cell::{Cell, CellFault, Op, Ty, copy_cell};
 pub use comparing::holds;
 pub use memory::Memory;
 pub use number::read_number;
-pub use reading::read_cell;
+pub use reading::{read_cell, read_cells_are_cells};
 pub use row::{Row, Rows, copy_row};
 pub use short_text::Str;
 pub use spelling::{cell_text, texts_are_read_again};

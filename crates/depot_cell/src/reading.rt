@@ -2,7 +2,7 @@
 
 ghost use Rattle.std.specs.Prelude.{◌≡◌};
 ghost use Rattle.std.specs.Str.{is_utf8};
-ghost use Rattle.depot_cell.specs.Reading.{Gives, cell_of, text_cell};
+ghost use Rattle.depot_cell.specs.Reading.{Gives, GivesCells, cell_of, text_cell};
 
 use crate::cell::{Cell, CellFault, Ty};
 use crate::number::read_int;
@@ -48,3 +48,8 @@ fn is_text(bytes: &[u8]) -> bool
         Err(_) => false,
     }
 }
+
+/// A law: what bytes are read as is a cell of the type.
+pub fn read_cells_are_cells()
+    ensures law { GivesCells }
+{}

@@ -1,5 +1,6 @@
 -- Lists that are read from the front: what was read, and behind it what the rest is.
 use Rattle.std.proofs.Common.{◌≡◌, List, [], ◌∷◌, ◌++◌, Option, Some, None, refl, sym, ap, append_assoc}
+use Rattle.std.proofs.lemmas.Option.{same_Some}
 use Rattle.table_desc.specs.Front.{with_first}
 
 -- more behind a front, where there is more
@@ -22,3 +23,11 @@ with_front-first front first (Some rest) = ap Some (sym (append_assoc front (fir
 pub with_first-none : {X : Type 0} (first : Option X) → with_first first None ≡ None
 with_first-none None = refl
 with_first-none (Some first) = refl
+
+-- a list that is there has a first element that is there, and others that are
+pub with_first-some : {X P : Type 0} (first : Option X) (others : Option (List X)) (xs : List X)
+    → with_first first others ≡ Some xs
+    → ((x : X) (ys : List X) → first ≡ Some x → others ≡ Some ys → x ∷ ys ≡ xs → P) → P
+with_first-some None others xs made go = absurd cc
+with_first-some (Some x) None xs made go = absurd cc
+with_first-some (Some x) (Some ys) xs made go = go x ys refl refl (same_Some _ _ made)
