@@ -4,6 +4,7 @@ pub mod Kinds
 pub mod Tables
 pub mod Descriptions
 pub mod Deliveries
+pub mod Keys
 pub mod Sources
 pub mod Served
 pub mod Words

@@ -3,6 +3,7 @@ use Rattle.std.specs.Prelude.{ℕ, List, ◌∷◌, Option, Some, None, Bool, no
 use Rattle.std.specs.Str.{bytes_eq}
 use Rattle.depot_cell.specs.Numbers.{number_of}
 use Rattle.table_desc.specs.declared.table.Column.{Column}
+use Rattle.table_desc.specs.Time.{END}
 use Rattle.table_desc.specs.Descriptions.{DescOf}
 use Rattle.table_desc.specs.Tables.{TableOf}
 use Rattle.table_desc.specs.KindValues.{Raw}
@@ -12,7 +13,7 @@ use Rattle.table_desc.specs.Columns.{are_columns, columns_of, find_time}
 -- the width that a word says: from 1 tick to all of them
 abbrev pub read_width : List ℕ → Option ℕ
 read_width word = option_and_then
-    (λ ticks. if nat_le 1 ticks && nat_le ticks 1099511627776 then Some ticks else None)
+    (λ ticks. if nat_le 1 ticks && nat_le ticks END then Some ticks else None)
     (number_of word)
 
 -- a raw table of these parts, where they may stand together

@@ -19,8 +19,8 @@ pub use grammar::{
     words_of,
 };
 pub use served::Served;
-pub use table::{Column, Desc, Feed, Key, Table};
-pub use time::{END, Span, Width};
+pub use table::{Column, Desc, Feed, Key, Table, compare_keys};
+pub use time::{END, Span, Width, time_ends_as_defined};
 pub use view::{Agg, Cond, Fun, Kind, Pair, Src};
 
 #[cfg(test)]

@@ -1,8 +1,12 @@
 //! Descriptions: the feeds, the tables and their columns.
 
+ghost use Rattle.std.specs.Prelude.{◌≡◌};
+ghost use Rattle.table_desc.specs.Keys.{key_cmp};
+
 use crate::time::Width;
 use crate::view::Kind;
 use depot_cell::{Str, Ty};
+use std::cmp::Ordering;
 use std::marker::Model;
 
 /// Where deliveries come from. With `header` the first record of each delivery is skipped.
@@ -62,4 +66,11 @@ impl Model for Desc {
 pub struct Key {
     pub table: u16,
     pub part: u64,
+}
+
+/// How two keys are ordered: by table, then by number.
+pub fn compare_keys(left: Key, right: Key) -> Ordering
+    ensures exact { result ≡ key_cmp left right }
+{
+    left.cmp(&right)
 }

@@ -1,12 +1,17 @@
 //! Widths of partitions, and the spans of time that a view reads of a source.
 
 ghost use Rattle.std.specs.Prelude.{ℕ, ◌≡◌};
-ghost use Rattle.table_desc.specs.Time.{IsWidth};
+ghost use Rattle.table_desc.specs.Time.{END as the_end, IsWidth};
 
 use std::marker::Model;
 
-/// The tick behind the last one, 2^40.
+/// The tick after the last one, 2^40.
 pub const END: u64 = 1_099_511_627_776;
+
+/// A law: time ends at the tick that the definitions name.
+pub fn time_ends_as_defined()
+    ensures law { END ≡ the_end }
+{}
 
 /// How many ticks a partition covers, from 1 to [`END`].
 #[derive(Clone, Copy, Debug, PartialEq, Eq)]
@@ -42,8 +47,8 @@ impl Width {
     }
 }
 
-/// What a view reads of a source, around its own partition: from `lo` ticks behind its start up to,
-/// but not including, `hi` ticks behind the start of the next.
+/// What a view reads of a source, around its own partition: from `lo` ticks after its start up to,
+/// but not including, `hi` ticks after the start of the next.
 #[derive(Clone, Copy, Debug, PartialEq, Eq)]
 pub struct Span {
     pub lo: i64,
