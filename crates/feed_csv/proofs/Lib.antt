@@ -1,2 +1,4 @@
+pub mod ListLemmas
 pub mod CsvRecords
 pub mod BodyLemmas
+pub mod RowLemmas

@@ -10,6 +10,7 @@ ghost use Rattle.csv.specs.Records.{fields_of};
 ghost use Rattle.depot_cell.specs.declared.cell.Cell.TheVariants.{Int};
 ghost use Rattle.table_desc.specs.Kinds.{kind_of};
 ghost use Rattle.view_meaning.specs.Journal.{row_tick, tick_of};
+ghost use Rattle.feed_csv.specs.Rows.{RowsFit};
 ghost use Rattle.feed_csv.specs.Bodies.{BeginsBody, cells_of, is_in_time, is_raw_of, find_raw_table, row_of, rows_of, table_cells};
 
 use csv::{ByteRecord, Reader, ReaderBuilder};
@@ -37,6 +38,12 @@ pub fn read_rows(
         .from_reader(alloc, body);
     read_records(alloc, served, feed, reader)
 }
+
+/// A law: each row of a body is a row of a raw table of the feed, and the record numbers rise from
+/// 1 on.
+pub fn rows_fit()
+    ensures law { RowsFit }
+{}
 
 /// The rows of the records of a body, of which the reader has read nothing yet.
 fn read_records(

@@ -8,4 +8,4 @@ mod body;
 #[cfg(test)]
 mod tests;
 
-pub use body::read_rows;
+pub use body::{read_rows, rows_fit};

@@ -1,0 +1,146 @@
+-- The rows of a body fit the description: `rows_fit`.
+use Rattle.std.proofs.Common.{◌≡◌, ◌+◌, ◌<◌, ◌≤◌, ◌∷◌, [], ℕ, List, Option, Some, None, true, get_or, length, refl, subst, arith, rules, tests}
+use Rattle.std.specs.Prelude.{All, IsSomeAnd, ◌&&◌, option_map, slice_get}
+use Rattle.std.specs.List.{AllAdjacentBelow, AllZip}
+use Rattle.std.specs.Str.{bytes_eq}
+use Rattle.std.proofs.lemmas.List.Elements.{All-cons, All-nil}
+use Rattle.std.proofs.lemmas.List.Quantifiers.{position-Some}
+use Rattle.std.proofs.lemmas.Option.{cond_some, get_or_from_slice_get, option_and_then_some, same_Some}
+use Rattle.depot_cell.specs.declared.cell.Cell.{Cell}
+use Rattle.depot_cell.specs.Cells.{IsCell, ty_of}
+use Rattle.depot_cell.proofs.ReadingLemmas.{gives_cells}
+use Rattle.table_desc.specs.declared.table.Column.{Column}
+use Rattle.table_desc.specs.declared.delivery.DRow.{DRow}
+use Rattle.table_desc.specs.Descriptions.{DescOf}
+use Rattle.table_desc.specs.Tables.{TableOf}
+use Rattle.table_desc.specs.KindValues.{KindOf, Raw, Filter, Group, Join}
+use Rattle.table_desc.specs.Time.{END}
+use Rattle.table_desc.proofs.FrontLemmas.{with_first-some}
+use Rattle.view_meaning.specs.Journal.{FitsRow, IsRawOf, IsRowOf}
+use Rattle.feed_csv.specs.Bodies.{cells_of, find_raw_table, is_in_time, is_raw_of, records_of, row_of, rows_from, table_cells, timed}
+use Rattle.feed_csv.specs.Rows.{RowsFit}
+use Rattle.feed_csv.proofs.ListLemmas.{AllAdjacentBelow-cons, option_map-some, result_ok-some}
+
+-- cells of their columns' types
+record AreCellsOf (columns : List Column) (cells : List Cell) : Type 0 where
+  pub typed : AllZip (λ (column : Column) cell. ty_of cell ≡ column.ty) columns cells
+  pub fit : All IsCell cells
+
+-- fields are read as such cells
+cells_of-fit : (columns : List Column) (fields : List (List ℕ)) (cells : List Cell)
+    → cells_of columns fields ≡ Some cells → AreCellsOf columns cells
+cells_of-fit [] [] cells read =
+    subst (AreCellsOf []) (same_Some _ _ read) (record { typed = tt; fit = All-nil _ })
+cells_of-fit [] (_ ∷ _) cells read = absurd cc
+cells_of-fit (_ ∷ _) [] cells read = absurd cc
+cells_of-fit (column ∷ columns) (field ∷ fields) cells read =
+    with_first-some _ _ cells read (λ cell others first rest same.
+    let is_cell = gives_cells column.ty field cell (result_ok-some _ cell first) in
+    let fit = cells_of-fit columns fields others rest in
+    subst (AreCellsOf (column ∷ columns)) same (record {
+      typed = (is_cell.typed, fit.typed);
+      fit = All-cons IsCell cell others is_cell.is_cell fit.fit;
+    }))
+
+-- a tick that passes the test lies in time
+in_time-test : (tick : Option ℕ) → is_in_time tick ≡ true → IsSomeAnd tick (λ tick. tick < END)
+in_time-test None timed = absurd cc
+in_time-test (Some tick) timed = search (rules, tests, timed)
+
+-- a table that passes the test is a raw one of the feed
+raw_of-test : (feed : ℕ) (kind : KindOf) → is_raw_of feed kind ≡ true → IsRawOf feed kind
+raw_of-test feed (Raw its_feed time) same = search (rules, tests, same)
+raw_of-test feed (Filter _ _ _) same = absurd cc
+raw_of-test feed (Group _ _ _) same = absurd cc
+raw_of-test feed (Join _ _ _) same = absurd cc
+
+-- the cells of a row of a raw table are a row of it
+table_cells-fit : (feed : ℕ) (table : TableOf) (fields : List (List ℕ)) (cells : List Cell)
+    → is_raw_of feed table.kind ≡ true → table_cells (Some table) fields ≡ Some cells
+    → IsRowOf feed cells table
+table_cells-fit feed table fields cells raw read =
+    option_and_then_some (timed table) (cells_of table.columns fields) cells read
+    (λ given there in_time.
+    let fit = cells_of-fit table.columns fields given there in
+    let made = cond_some _ _ _ in_time in
+    subst (λ (cells : List Cell). IsRowOf feed cells table) made.1 (record {
+      of_feed = raw_of-test feed table.kind raw;
+      typed = fit.typed;
+      in_time = in_time-test _ made.0;
+    }))
+
+-- the table that a name finds is a raw one of the feed
+find_raw_table-raw : (desc : DescOf) (feed place : ℕ) (name : List ℕ) (table : TableOf)
+    → find_raw_table desc feed name ≡ Some place → slice_get desc.tables place ≡ Some table
+    → is_raw_of feed table.kind ≡ true
+find_raw_table-raw desc feed place name table found there =
+    let here : get_or desc.tables place table ≡ table =
+    get_or_from_slice_get desc.tables place table table there in
+    let passes = (position-Some
+    (λ (table : TableOf). bytes_eq table.name name && is_raw_of feed table.kind)
+    desc.tables place table found).1 in
+    search (rules, rw here at passes)
+
+-- a row of the record with this number
+record IsRowAt (desc : DescOf) (feed number : ℕ) (row : DRow) : Type 0 where
+  pub fits : FitsRow desc feed row
+  pub numbered : row.number ≡ number
+
+-- a record that is a row is such a one
+row_of-fits : (desc : DescOf) (feed number : ℕ) (fields : List (List ℕ)) (row : DRow)
+    → row_of desc feed number fields ≡ Some row → IsRowAt desc feed number row
+row_of-fits desc feed number [] row read = absurd cc
+row_of-fits desc feed number (name ∷ fields) row read =
+    option_and_then_some _ (find_raw_table desc feed name) row read
+    (λ place found made. of_table place (slice_get desc.tables place) found refl made)
+  where
+    of_table : (place : ℕ) (there : Option TableOf) → find_raw_table desc feed name ≡ Some place
+        → slice_get desc.tables place ≡ there
+        → option_map (λ cells. record { number = number; table = place; cells = cells })
+        (table_cells there fields) ≡ Some row
+        → IsRowAt desc feed number row
+    of_table place None found there made = absurd cc
+    of_table place (Some table) found there made =
+        let raw = find_raw_table-raw desc feed place name table found there in
+        option_map-some _ (table_cells (Some table) fields) row made (λ cells read same.
+        subst (IsRowAt desc feed number) same (record {
+          fits = rw there (table_cells-fit feed table fields cells raw read);
+          numbered = refl;
+        }))
+
+-- rows of records that are numbered from here on
+record AreRowsFrom (desc : DescOf) (feed number : ℕ) (rows : List DRow) : Type 0 where
+  pub fit : All (FitsRow desc feed) rows
+  pub from : All (λ (row : DRow). number ≤ row.number) rows
+  pub rising : AllAdjacentBelow (λ (row next : DRow). row.number < next.number) rows (length rows)
+
+-- one row before those behind it
+AreRowsFrom-cons : (desc : DescOf) (feed number : ℕ) (row : DRow) (rows : List DRow)
+    → IsRowAt desc feed number row → AreRowsFrom desc feed (number + 1) rows
+    → AreRowsFrom desc feed number (row ∷ rows)
+AreRowsFrom-cons desc feed number row rows here rest = record {
+  fit = All-cons (FitsRow desc feed) row rows here.fits rest.fit;
+  from = All-cons (λ (row : DRow). number ≤ row.number) row rows (omega (arith, here.numbered))
+      (λ index default within. omega (arith, rest.from index default within));
+  rising = AllAdjacentBelow-cons (λ (row next : DRow). row.number < next.number) row rows
+      (λ default some. omega (arith, here.numbered, rest.from 0 default some)) rest.rising;
+}
+
+-- records are read as such rows
+rows_from-fit : (desc : DescOf) (feed number : ℕ) (records : List (List (List ℕ)))
+    (rows : List DRow)
+    → rows_from desc feed number records ≡ Some rows → AreRowsFrom desc feed number rows
+rows_from-fit desc feed number [] rows read = subst (AreRowsFrom desc feed number)
+    (same_Some _ _ read)
+    (record { fit = All-nil _; from = All-nil _; rising = λ index default within. absurd (omega arith) })
+rows_from-fit desc feed number (fields ∷ others) rows read =
+    with_first-some _ _ rows read (λ row rest first behind same.
+    subst (AreRowsFrom desc feed number) same (AreRowsFrom-cons desc feed number row rest
+    (row_of-fits desc feed number fields row first)
+    (rows_from-fit desc feed (number + 1) others rest behind)))
+
+-- the rows of a body fit
+pub rows_fit : RowsFit
+rows_fit desc feed body rows read =
+    let fit = rows_from-fit desc feed 1 (records_of body) rows read in
+    record { fit = fit.fit; from_one = fit.from; rising = fit.rising }

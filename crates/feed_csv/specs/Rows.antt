@@ -1,0 +1,18 @@
+-- What the rows of a body have.
+use Rattle.std.specs.Prelude.{ℕ, ◌≡◌, ◌<◌, ◌≤◌, List, Some, All, length}
+use Rattle.std.specs.List.{AllAdjacentBelow}
+use Rattle.table_desc.specs.declared.delivery.DRow.{DRow}
+use Rattle.table_desc.specs.Descriptions.{DescOf}
+use Rattle.view_meaning.specs.Journal.{FitsRow}
+use Rattle.feed_csv.specs.Bodies.{rows_of}
+
+-- each is a row of a raw table of the feed, and their record numbers rise from 1 on
+pub record AreRowsOf (desc : DescOf) (feed : ℕ) (rows : List DRow) : Type 0 where
+  pub fit : All (FitsRow desc feed) rows
+  pub from_one : All (λ (row : DRow). 1 ≤ row.number) rows
+  pub rising : AllAdjacentBelow (λ (row next : DRow). row.number < next.number) rows (length rows)
+
+-- so are the rows of each body
+abbrev pub RowsFit : Type 0
+RowsFit = (desc : DescOf) (feed : ℕ) (body : List ℕ) (rows : List DRow)
+    → rows_of desc feed body ≡ Some rows → AreRowsOf desc feed rows
