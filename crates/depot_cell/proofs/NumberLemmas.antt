@@ -22,7 +22,7 @@ pub is_numeral-at : (bytes : List ℕ) (i : ℕ) → is_numeral bytes ≡ true �
 is_numeral-at bytes i numeral within =
     digit_at bytes i (own.to bytes (is_numeral-digits bytes numeral)) within
 
--- the number of two runs of digits is that of the second behind that of the first
+-- the number of two runs of digits is that of the second after that of the first
 value_from-append : (n : ℕ) (digits more : List ℕ)
     → value_from n (digits ++ more) ≡ value_from (value_from n digits) more
 value_from-append n [] more = refl

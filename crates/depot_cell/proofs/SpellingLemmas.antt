@@ -29,7 +29,7 @@ int_of-plain (first ∷ rest) numeral small =
     let digit = is_numeral-at (first ∷ rest) 0 numeral (omega arith) in
     grind (arith, common_steps, nat_tests)
 
--- and behind a minus
+-- and after a minus
 int_of-minus : (digits : List ℕ) → is_numeral digits ≡ true → value_from 0 digits ≤ 2 ^ 63
     → int_of (45 ∷ digits) ≡ Some (neg_ℤ (pos (value_from 0 digits)))
 int_of-minus digits numeral small = grind (arith, common_steps, nat_tests)

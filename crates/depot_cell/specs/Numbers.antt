@@ -3,7 +3,7 @@ use Rattle.std.specs.Prelude.{Bool, List, Option, ℕ, ℤ, Some, None, pos, neg
 use Rattle.std.specs.List.{list_all}
 use Rattle.std.specs.Char.{is_ascii_digit}
 
--- the number that digits give behind those that gave n
+-- the number that digits give after those that gave n
 abbrev pub value_from : ℕ → List ℕ → ℕ
 value_from n [] = n
 value_from n (digit ∷ digits) = value_from (10 * n + (digit - 48)) digits
@@ -23,7 +23,7 @@ plain_int digits =
     if is_numeral digits && nat_lt (value_from 0 digits) (2 ^ 63)
     then Some (pos (value_from 0 digits)) else None
 
--- the int of digits behind a minus
+-- the int of digits after a minus
 abbrev pub minus_int : List ℕ → Option ℤ
 minus_int digits =
     if is_numeral digits && nat_le (value_from 0 digits) (2 ^ 63)

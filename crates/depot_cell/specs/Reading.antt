@@ -32,7 +32,7 @@ IsOwning (Ok (Text bytes)) = Unit {0}
 IsOwning (Ok (Int number)) = ⊥
 IsOwning (Err fault) = ⊥
 
--- an answer is the reading, but that memory may lack where the reading is a text
+-- an answer is the reading, or Memory if the reading is a text
 abbrev pub Gives : Result Cell CellFault → Result Cell CellFault → Type 0
 Gives (Ok cell) reading = reading ≡ Ok cell
 Gives (Err BadInt) reading = reading ≡ Err BadInt

@@ -49,7 +49,7 @@ impl Row {
         self.cells.as_slice()
     }
 
-    /// Puts a cell at the end. Where there is no memory the cell comes back and the row is as
+    /// Puts a cell at the end. If there is no memory the cell comes back and the row is as
     /// before.
     pub fn push(&mut self, cell: Cell) -> Result<(), (Cell, Memory)>
         ensures ok { OnOk result (self.new ≡ self.old ++ cell ∷ []) }
@@ -106,7 +106,7 @@ impl Rows {
         self.rows.as_slice()
     }
 
-    /// Puts a row at the end. Where there is no memory the row comes back and the list is as
+    /// Puts a row at the end. If there is no memory the row comes back and the list is as
     /// before.
     pub fn push(&mut self, row: Row) -> Result<(), (Row, Memory)>
         ensures ok { OnOk result (self.new ≡ self.old ++ row ∷ []) }

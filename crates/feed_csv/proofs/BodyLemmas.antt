@@ -16,49 +16,49 @@ use Rattle.table_desc.specs.Descriptions.{DescOf}
 use Rattle.table_desc.specs.Tables.{TableOf}
 use Rattle.feed_csv.specs.Bodies.{cells_of, find_raw_table, records_of, row_of, rows_from, rows_of, table_cells}
 use Rattle.table_desc.specs.Front.{with_first}
-use Rattle.table_desc.proofs.FrontLemmas.{with_first-none, with_front, with_front-first, with_front-nil}
-use Rattle.feed_csv.proofs.CsvRecords.{Yields, Yields-end, Yields-more, records-short}
+use Rattle.table_desc.proofs.FrontLemmas.{with_first-none, with_front, with_front-push, with_front-empty}
+use Rattle.feed_csv.proofs.CsvRecords.{Yields, Yields-empty, Yields-step, records-le}
 
 -- as many cells as columns, or none
-pub cells_of-lengths : (columns : List Column) (fields : List (List ℕ))
+pub cells_of-none : (columns : List Column) (fields : List (List ℕ))
     → (length columns ≡ length fields → ⊥) → cells_of columns fields ≡ None
-cells_of-lengths [] [] differ = absurd (differ refl)
-cells_of-lengths [] (_ ∷ _) differ = refl
-cells_of-lengths (_ ∷ _) [] differ = refl
-cells_of-lengths (column ∷ columns) (field ∷ fields) differ =
-    rw (cells_of-lengths columns fields (λ same. differ (ap suc same))) (with_first-none _)
+cells_of-none [] [] differ = absurd (differ refl)
+cells_of-none [] (_ ∷ _) differ = refl
+cells_of-none (_ ∷ _) [] differ = refl
+cells_of-none (column ∷ columns) (field ∷ fields) differ =
+    rw (cells_of-none columns fields (λ same. differ (ap suc same))) (with_first-none _)
 
--- a field behind the first
-pub field_at-behind : (fields : List (List ℕ)) (place : ℕ)
+-- a field after the first
+pub field_at-drop : (fields : List (List ℕ)) (place : ℕ)
     → field_at fields (place + 1) ≡ field_at (drop 1 fields) place
 unfolding field_at
-field_at-behind [] place = refl
-field_at-behind (first ∷ fields) place =
+field_at-drop [] place = refl
+field_at-drop (first ∷ fields) place =
     let next : place + 1 ≡ suc place = omega arith in
     rw next refl
 
--- the fields from a place on: the one there, and those behind it
-drop-field : (fields : List (List ℕ)) (place : ℕ) (field : List ℕ)
+-- the fields from a place on: the one there, and those after it
+drop-step : (fields : List (List ℕ)) (place : ℕ) (field : List ℕ)
     → field_at fields place ≡ Some field
     → drop place fields ≡ field ∷ drop (place + 1) fields
 unfolding field_at
-drop-field [] place field there = cc there
-drop-field (first ∷ fields) zero field there = cc there
-drop-field (first ∷ fields) (suc place) field there =
+drop-step [] place field there = cc there
+drop-step (first ∷ fields) zero field there = cc there
+drop-step (first ∷ fields) (suc place) field there =
     let next : suc place + 1 ≡ suc (place + 1) = omega arith in
-    rw next (drop-field fields place field there)
+    rw next (drop-step fields place field there)
 
--- the cells from a place on: that of the field there, and those behind it
-cells_of-drop : (columns : List Column) (fields : List (List ℕ)) (place : ℕ) (column : Column)
+-- the cells from a place on: that of the field there, and those after it
+cells_of-step : (columns : List Column) (fields : List (List ℕ)) (place : ℕ) (column : Column)
     (field : List ℕ)
     → place < length columns → get_or columns place column ≡ column
     → field_at fields place ≡ Some field
     → cells_of (drop place columns) (drop place fields)
     ≡ with_first (result_ok (cell_of column.ty field))
     (cells_of (drop (place + 1) columns) (drop (place + 1) fields))
-cells_of-drop columns fields place column field within here there =
+cells_of-step columns fields place column field within here there =
     let columns_here = drop_more columns place column within in
-    rw (columns_here, here, drop-field fields place field there) refl
+    rw (columns_here, here, drop-step fields place field there) refl
 
 -- what was read before a place, with what is from there on, is the whole
 pub record ReadsCells (columns : List Column) (fields : List (List ℕ)) (place : ℕ)
@@ -67,16 +67,16 @@ pub record ReadsCells (columns : List Column) (fields : List (List ℕ)) (place 
       ≡ cells_of columns fields
 
 -- a field that is a cell adds it
-pub ReadsCells-more : (columns : List Column) (fields : List (List ℕ)) (place : ℕ)
+pub ReadsCells-push : (columns : List Column) (fields : List (List ℕ)) (place : ℕ)
     (cells : List Cell)
     (column : Column) (field : List ℕ) (cell : Cell)
     → ReadsCells columns fields place cells → place < length columns
     → get_or columns place column ≡ column
     → field_at fields place ≡ Some field → Some cell ≡ result_ok (cell_of column.ty field)
     → ReadsCells columns fields (place + 1) (cells ++ cell ∷ [])
-ReadsCells-more columns fields place cells column field cell before within here there is_cell =
-    let step = cells_of-drop columns fields place column field within here there in
-    record { whole = sym (with_front-first cells cell _) ∙ rw (step, ← is_cell) at before.whole }
+ReadsCells-push columns fields place cells column field cell before within here there is_cell =
+    let step = cells_of-step columns fields place column field within here there in
+    record { whole = sym (with_front-push cells cell _) ∙ rw (step, ← is_cell) at before.whole }
 
 -- a field that is no cell makes the whole none
 pub ReadsCells-none : (columns : List Column) (fields : List (List ℕ)) (place : ℕ)
@@ -87,7 +87,7 @@ pub ReadsCells-none : (columns : List Column) (fields : List (List ℕ)) (place 
     → field_at fields place ≡ Some field → None ≡ result_ok (cell_of column.ty field)
     → None ≡ cells_of columns fields
 ReadsCells-none columns fields place cells column field before within here there no_cell =
-    let step = cells_of-drop columns fields place column field within here there in
+    let step = cells_of-step columns fields place column field within here there in
     rw (step, ← no_cell) at before.whole
 
 -- a record with a first field
@@ -106,10 +106,10 @@ row_of-empty desc feed number [] none = refl
 row_of-empty desc feed number (first ∷ fields) none = cc none
 
 -- a record whose first field names no raw table of the feed is no row
-pub row_of-unnamed : (desc : DescOf) (feed number : ℕ) (fields : List (List ℕ)) (name : List ℕ)
+pub row_of-none : (desc : DescOf) (feed number : ℕ) (fields : List (List ℕ)) (name : List ℕ)
     → Some name ≡ field_at fields 0 → None ≡ find_raw_table desc feed name
     → None ≡ row_of desc feed number fields
-row_of-unnamed desc feed number fields name there none =
+row_of-none desc feed number fields name there none =
     rw (field_at-first fields name there, ← none) refl
 
 -- a record whose first field names a raw table is the row that its other fields are there
@@ -137,19 +137,19 @@ pub ReadsRows-start : {R : Type 0} (rem : R → Option (List ℕ)) (desc : DescO
     → Yields rem reader (records_of body)
     → ReadsRows rem desc feed body reader 1 []
 ReadsRows-start rem desc feed body reader yields =
-    let short = records-short body in
-    record { rest = records_of body; yields = yields; few = omega arith; whole = with_front-nil _ }
+    let short = records-le body in
+    record { rest = records_of body; yields = yields; few = omega arith; whole = with_front-empty _ }
 
 -- a record that is a row adds it
-pub ReadsRows-more : {R : Type 0} (rem : R → Option (List ℕ)) (desc : DescOf) (feed : ℕ)
+pub ReadsRows-push : {R : Type 0} (rem : R → Option (List ℕ)) (desc : DescOf) (feed : ℕ)
     (body : List ℕ)
     (old new : Reader R) (number : ℕ) (rows : List DRow) (fields : List (List ℕ)) (row : DRow)
     → ReadsRows rem desc feed body old number rows → ReadRecord rem old new true fields
     → took_first new ≡ true
     → Some row ≡ row_of desc feed number fields
     → ReadsRows rem desc feed body new (number + 1) (rows ++ row ∷ [])
-ReadsRows-more rem desc feed body old new number rows fields row before read took is_row =
-    let more = Yields-more rem old new fields before.rest before.yields read took in
+ReadsRows-push rem desc feed body old new number rows fields row before read took is_row =
+    let more = Yields-step rem old new fields before.rest before.yields read took in
     let few = before.few in
     let size = ap length more.first in
     let step = rw (more.first, ← is_row) at before.whole in
@@ -157,26 +157,26 @@ ReadsRows-more rem desc feed body old new number rows fields row before read too
       rest = more.others;
       yields = more.yields;
       few = omega arith;
-      whole = sym (with_front-first rows row _) ∙ step;
+      whole = sym (with_front-push rows row _) ∙ step;
     }
 
 -- a record that is no row makes the whole none
-pub ReadsRows-bad : {R : Type 0} (rem : R → Option (List ℕ)) (desc : DescOf) (feed : ℕ)
+pub ReadsRows-none : {R : Type 0} (rem : R → Option (List ℕ)) (desc : DescOf) (feed : ℕ)
     (body : List ℕ)
     (old new : Reader R) (number : ℕ) (rows : List DRow) (fields : List (List ℕ))
     → ReadsRows rem desc feed body old number rows → ReadRecord rem old new true fields
     → took_first new ≡ true
     → None ≡ row_of desc feed number fields → None ≡ rows_of desc feed body
-ReadsRows-bad rem desc feed body old new number rows fields before read took no_row =
-    let more = Yields-more rem old new fields before.rest before.yields read took in
+ReadsRows-none rem desc feed body old new number rows fields before read took no_row =
+    let more = Yields-step rem old new fields before.rest before.yields read took in
     rw (more.first, ← no_row) at before.whole
 
--- where no record is left the rows are the whole
-pub ReadsRows-end : {R : Type 0} (rem : R → Option (List ℕ)) (desc : DescOf) (feed : ℕ)
+-- if no record is left the rows are the whole
+pub ReadsRows-empty : {R : Type 0} (rem : R → Option (List ℕ)) (desc : DescOf) (feed : ℕ)
     (body : List ℕ)
     (old new : Reader R) (number : ℕ) (rows : List DRow) (fields : List (List ℕ))
     → ReadsRows rem desc feed body old number rows → ReadRecord rem old new false fields
     → Some rows ≡ rows_of desc feed body
-ReadsRows-end rem desc feed body old new number rows fields before read =
-    let none = Yields-end rem old new fields before.rest before.yields read in
+ReadsRows-empty rem desc feed body old new number rows fields before read =
+    let none = Yields-empty rem old new fields before.rest before.yields read in
     ap Some (sym (append-nil rows)) ∙ rw none at before.whole

@@ -1,5 +1,5 @@
 -- Reading the records of a text one by one, with the default setup. `Yields` says which records a
--- reader gives from here on: `Yields-start` is for a new one, `Yields-more` and `Yields-end` are
+-- reader gives from here on: `Yields-start` is for a new one, `Yields-step` and `Yields-empty` are
 -- for a read.
 use Rattle.std.proofs.Common.{◌≡◌, ◌∙◌, ◌+◌, ◌-◌, ◌<◌, ◌≤◌, ◌∷◌, [], ℕ, zero, suc, List, Option, Some, None, length, refl, sym, ap, true, false, arith, inl, inr}
 use Rattle.std.specs.Prelude.{IfSome}
@@ -17,7 +17,7 @@ record Leaves (text : List ℕ) (read : Read) : Type 0 where
   pub less : length read.2 ≤ length text
   pub between : ends_at_end read.1 ≡ false
 
--- the same where the read took something
+-- the same if the read took something
 record LeavesLess (text : List ℕ) (read : Read) : Type 0 where
   pub less : length read.2 < length text
   pub between : ends_at_end read.1 ≡ false
@@ -40,16 +40,16 @@ step-between st.InComment byte ends = grind arith
 step-between st.AfterCr byte ends = grind (arith, in_field-between)
 
 -- with a byte more in front, that was taken, the read took something
-leaves-behind : (byte : ℕ) (text : List ℕ) (read : Option Read)
+LeavesLess-push : (byte : ℕ) (text : List ℕ) (read : Option Read)
     → IfSome read (Leaves text) → IfSome read (LeavesLess (byte ∷ text))
-leaves-behind byte text None leaves = tt
-leaves-behind byte text (Some read) leaves = record { less = omega arith; between = leaves.between }
+LeavesLess-push byte text None leaves = tt
+LeavesLess-push byte text (Some read) leaves = record { less = omega arith; between = leaves.between }
 
 -- with a byte more in front, that was taken, no more text is left either
-leaves-more : (byte : ℕ) (text : List ℕ) (read : Option Read)
+Leaves-push : (byte : ℕ) (text : List ℕ) (read : Option Read)
     → IfSome read (Leaves text) → IfSome read (Leaves (byte ∷ text))
-leaves-more byte text None leaves = tt
-leaves-more byte text (Some read) leaves = record { less = omega arith; between = leaves.between }
+Leaves-push byte text None leaves = tt
+Leaves-push byte text (Some read) leaves = record { less = omega arith; between = leaves.between }
 
 -- a read leaves no more text than it had
 next_record-Leaves : (state : State) (fields : List (List ℕ)) (field text : List ℕ)
@@ -63,7 +63,7 @@ next_record-Leaves state fields field [] =
 next_record-Leaves state fields field (byte ∷ text) =
     elim (cases_Bool (is_end (step default_config state byte).1)) [
       | inl ends ↦ rw ends (record { less = omega arith; between = step-between state byte ends })
-      | inr goes ↦ rw goes (leaves-more byte text _
+      | inr goes ↦ rw goes (Leaves-push byte text _
           (next_record-Leaves (step default_config state byte).0
           (fields_after (step default_config state byte).1 fields field)
           (field_after (step default_config state byte).1 byte field) text))
@@ -77,47 +77,47 @@ next_record-LeavesLess state [] between = rw between tt
 next_record-LeavesLess state (byte ∷ text) between =
     elim (cases_Bool (is_end (step default_config state byte).1)) [
       | inl ends ↦ rw ends (record { less = omega arith; between = step-between state byte ends })
-      | inr goes ↦ rw goes (leaves-behind byte text _
+      | inr goes ↦ rw goes (LeavesLess-push byte text _
           (next_record-Leaves (step default_config state byte).0
           (fields_after (step default_config state byte).1 [] [])
           (field_after (step default_config state byte).1 byte []) text))
     ]
 
--- a record and those behind it are no more than the bytes, where those behind it are no more than
+-- a record and those after it are no more than the bytes, if those after it are no more than
 -- theirs
-records_next-short : (turns : ℕ) (text : List ℕ) (read : Option Read)
+records_next-le : (turns : ℕ) (text : List ℕ) (read : Option Read)
     → IfSome read (LeavesLess text)
     → ((state : State) (left : List ℕ) → ends_at_end state ≡ false
     → length (records_from default_config turns state left) ≤ length left)
     → length (records_next (records_from default_config turns) read) ≤ length text
-records_next-short turns text None leaves short = omega arith
-records_next-short turns text (Some read) leaves short =
+records_next-le turns text None leaves short = omega arith
+records_next-le turns text (Some read) leaves short =
     let others = short read.1 read.2 leaves.between in
     let less = leaves.less in
     omega arith
 
 -- there are no more records than bytes
-records_from-short : (turns : ℕ) (state : State) (text : List ℕ) → ends_at_end state ≡ false
+records_from-le : (turns : ℕ) (state : State) (text : List ℕ) → ends_at_end state ≡ false
     → length (records_from default_config turns state text) ≤ length text
 unfolding records_from
-records_from-short zero state text between = omega arith
-records_from-short (suc turns) state text between = records_next-short turns text _
-    (next_record-LeavesLess state text between) (λ state left. records_from-short turns state left)
+records_from-le zero state text between = omega arith
+records_from-le (suc turns) state text between = records_next-le turns text _
+    (next_record-LeavesLess state text between) (λ state left. records_from-le turns state left)
 
 -- a text is no longer without its byte order mark
-strip_bom-short : (text : List ℕ) → length (strip_bom text) ≤ length text
+strip_bom-le : (text : List ℕ) → length (strip_bom text) ≤ length text
 unfolding strip_bom
-strip_bom-short [] = omega arith
-strip_bom-short (_ ∷ []) = omega arith
-strip_bom-short (_ ∷ _ ∷ []) = omega arith
-strip_bom-short (first ∷ second ∷ third ∷ text) = grind arith
+strip_bom-le [] = omega arith
+strip_bom-le (_ ∷ []) = omega arith
+strip_bom-le (_ ∷ _ ∷ []) = omega arith
+strip_bom-le (first ∷ second ∷ third ∷ text) = grind arith
 
 -- a text has no more records than bytes
-pub records-short : (text : List ℕ) → length (records default_config (strip_bom text)) ≤ length text
-records-short text =
-    let stripped = strip_bom-short text in
+pub records-le : (text : List ℕ) → length (records default_config (strip_bom text)) ≤ length text
+records-le text =
+    let stripped = strip_bom-le text in
     let short =
-    records_from-short (length (strip_bom text) + 1) st.StartRecord (strip_bom text) refl in
+    records_from-le (length (strip_bom text) + 1) st.StartRecord (strip_bom text) refl in
     omega arith
 
 -- the reader gives these records from here on, and then no more
@@ -168,15 +168,15 @@ next-is : (next : Option Read) (fields : List (List ℕ)) (state : State) (left 
 next-is next fields state left read found same_fields same_state same_left =
     rw (same_fields, ← same_state, ← same_left) found
 
--- the records from where one is found: that one, and those behind it
-records_from-more : (turns : ℕ) (state next : State) (text left : List ℕ) (fields : List (List ℕ))
+-- the records from where one is found: that one, and those after it
+records_from-step : (turns : ℕ) (state next : State) (text left : List ℕ) (fields : List (List ℕ))
     → 0 < turns
     → next_record default_config state [] [] text ≡ Some (fields, next, left)
     → records_from default_config turns state text
     ≡ fields ∷ records_from default_config (turns - 1) next left
 unfolding records_from
-records_from-more zero state next text left fields some found = absurd (omega arith)
-records_from-more (suc turns) state next text left fields some found =
+records_from-step zero state next text left fields some found = absurd (omega arith)
+records_from-step (suc turns) state next text left fields some found =
     let one_less : suc turns - 1 ≡ turns = omega arith in
     rw (one_less, found) refl
 
@@ -213,40 +213,46 @@ found-by rem old new text fields config source read =
           more.2.1 more.2.2 more.2.3.0 more.2.3.1;
     }
 
+-- after a read that found a record the reader gives the records from what is left
+Yields-left : {R : Type 0} (rem : R → Option (List ℕ)) (old new : Reader R)
+    (fields : List (List ℕ)) (rest : List (List (List ℕ)))
+    (yields : Yields rem old rest) (found : Found rem old new yields.left fields)
+    → ReadRecord rem old new true fields → took_first new ≡ true
+    → Yields rem new (records_from default_config (yields.turns - 1) (reader_state new) found.left)
+Yields-left rem old new fields rest yields found read took =
+    let leaves : LeavesLess yields.left (fields, reader_state new, found.left) =
+    rw found.next at (next_record-LeavesLess (reader_state old) yields.left yields.between) in
+    record {
+      plain = read.3 ∙ yields.plain;
+      ready = inl took;
+      config = read.2 ∙ yields.config;
+      between = leaves.between;
+      left = found.left;
+      source = found.source;
+      turns = yields.turns - 1;
+      enough = omega (arith, leaves.less, yields.enough);
+      rest_is = refl;
+    }
+
 -- a read that found a record took the first of those to come
-pub Yields-more : {R : Type 0} (rem : R → Option (List ℕ)) (old new : Reader R)
+pub Yields-step : {R : Type 0} (rem : R → Option (List ℕ)) (old new : Reader R)
     (fields : List (List ℕ)) (rest : List (List (List ℕ)))
     → Yields rem old rest → ReadRecord rem old new true fields → took_first new ≡ true
     → YieldsMore rem new fields rest
-Yields-more rem old new fields rest yields read took =
+Yields-step rem old new fields rest yields read took =
     let found = found-by rem old new yields.left fields yields.config yields.source read in
-    let leaves : LeavesLess yields.left (fields, reader_state new, found.left) =
-    rw found.next at (next_record-LeavesLess (reader_state old) yields.left yields.between) in
-    let less = leaves.less in
-    let enough = yields.enough in
-    let more = records_from-more yields.turns (reader_state old) (reader_state new)
-    yields.left found.left fields (omega arith) found.next in
     record {
       others = records_from default_config (yields.turns - 1) (reader_state new) found.left;
-      first = yields.rest_is ∙ more;
-      yields = record {
-        plain = read.3 ∙ yields.plain;
-        ready = inl took;
-        config = read.2 ∙ yields.config;
-        between = leaves.between;
-        left = found.left;
-        source = found.source;
-        turns = yields.turns - 1;
-        enough = omega arith;
-        rest_is = refl;
-      };
+      first = yields.rest_is ∙ records_from-step yields.turns (reader_state old) (reader_state new)
+          yields.left found.left fields (omega (arith, yields.enough)) found.next;
+      yields = Yields-left rem old new fields rest yields found read took;
     }
 
 -- a read that found no record had none to come
-pub Yields-end : {R : Type 0} (rem : R → Option (List ℕ)) (old new : Reader R)
+pub Yields-empty : {R : Type 0} (rem : R → Option (List ℕ)) (old new : Reader R)
     (fields : List (List ℕ)) (rest : List (List (List ℕ)))
     → Yields rem old rest → ReadRecord rem old new false fields → rest ≡ []
-Yields-end rem old new fields rest yields read =
+Yields-empty rem old new fields rest yields read =
     let none =
     rows-end rem old new fields default_config yields.left yields.config yields.source read in
     yields.rest_is ∙ records_from-none yields.turns (reader_state old) yields.left none

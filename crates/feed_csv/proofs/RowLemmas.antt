@@ -27,53 +27,53 @@ record AreCellsOf (columns : List Column) (cells : List Cell) : Type 0 where
   pub fit : All IsCell cells
 
 -- fields are read as such cells
-cells_of-fit : (columns : List Column) (fields : List (List ℕ)) (cells : List Cell)
+AreCellsOf-cells_of : (columns : List Column) (fields : List (List ℕ)) (cells : List Cell)
     → cells_of columns fields ≡ Some cells → AreCellsOf columns cells
-cells_of-fit [] [] cells read =
+AreCellsOf-cells_of [] [] cells read =
     subst (AreCellsOf []) (same_Some _ _ read) (record { typed = tt; fit = All-nil _ })
-cells_of-fit [] (_ ∷ _) cells read = absurd cc
-cells_of-fit (_ ∷ _) [] cells read = absurd cc
-cells_of-fit (column ∷ columns) (field ∷ fields) cells read =
+AreCellsOf-cells_of [] (_ ∷ _) cells read = absurd cc
+AreCellsOf-cells_of (_ ∷ _) [] cells read = absurd cc
+AreCellsOf-cells_of (column ∷ columns) (field ∷ fields) cells read =
     with_first-some _ _ cells read (λ cell others first rest same.
     let is_cell = gives_cells column.ty field cell (result_ok-some _ cell first) in
-    let fit = cells_of-fit columns fields others rest in
+    let fit = AreCellsOf-cells_of columns fields others rest in
     subst (AreCellsOf (column ∷ columns)) same (record {
       typed = (is_cell.typed, fit.typed);
       fit = All-cons IsCell cell others is_cell.is_cell fit.fit;
     }))
 
 -- a tick that passes the test lies in time
-in_time-test : (tick : Option ℕ) → is_in_time tick ≡ true → IsSomeAnd tick (λ tick. tick < END)
-in_time-test None timed = absurd cc
-in_time-test (Some tick) timed = search (rules, tests, timed)
+IsSomeAnd-in_time : (tick : Option ℕ) → is_in_time tick ≡ true → IsSomeAnd tick (λ tick. tick < END)
+IsSomeAnd-in_time None timed = absurd cc
+IsSomeAnd-in_time (Some tick) timed = search (rules, tests, timed)
 
 -- a table that passes the test is a raw one of the feed
-raw_of-test : (feed : ℕ) (kind : KindOf) → is_raw_of feed kind ≡ true → IsRawOf feed kind
-raw_of-test feed (Raw its_feed time) same = search (rules, tests, same)
-raw_of-test feed (Filter _ _ _) same = absurd cc
-raw_of-test feed (Group _ _ _) same = absurd cc
-raw_of-test feed (Join _ _ _) same = absurd cc
+IsRawOf-raw_of : (feed : ℕ) (kind : KindOf) → is_raw_of feed kind ≡ true → IsRawOf feed kind
+IsRawOf-raw_of feed (Raw its_feed time) same = search (rules, tests, same)
+IsRawOf-raw_of feed (Filter _ _ _) same = absurd cc
+IsRawOf-raw_of feed (Group _ _ _) same = absurd cc
+IsRawOf-raw_of feed (Join _ _ _) same = absurd cc
 
 -- the cells of a row of a raw table are a row of it
-table_cells-fit : (feed : ℕ) (table : TableOf) (fields : List (List ℕ)) (cells : List Cell)
+IsRowOf-table_cells : (feed : ℕ) (table : TableOf) (fields : List (List ℕ)) (cells : List Cell)
     → is_raw_of feed table.kind ≡ true → table_cells (Some table) fields ≡ Some cells
     → IsRowOf feed cells table
-table_cells-fit feed table fields cells raw read =
+IsRowOf-table_cells feed table fields cells raw read =
     option_and_then_some (timed table) (cells_of table.columns fields) cells read
     (λ given there in_time.
-    let fit = cells_of-fit table.columns fields given there in
+    let fit = AreCellsOf-cells_of table.columns fields given there in
     let made = cond_some _ _ _ in_time in
     subst (λ (cells : List Cell). IsRowOf feed cells table) made.1 (record {
-      of_feed = raw_of-test feed table.kind raw;
+      of_feed = IsRawOf-raw_of feed table.kind raw;
       typed = fit.typed;
-      in_time = in_time-test _ made.0;
+      in_time = IsSomeAnd-in_time _ made.0;
     }))
 
 -- the table that a name finds is a raw one of the feed
-find_raw_table-raw : (desc : DescOf) (feed place : ℕ) (name : List ℕ) (table : TableOf)
+is_raw_of-find_raw_table : (desc : DescOf) (feed place : ℕ) (name : List ℕ) (table : TableOf)
     → find_raw_table desc feed name ≡ Some place → slice_get desc.tables place ≡ Some table
     → is_raw_of feed table.kind ≡ true
-find_raw_table-raw desc feed place name table found there =
+is_raw_of-find_raw_table desc feed place name table found there =
     let here : get_or desc.tables place table ≡ table =
     get_or_from_slice_get desc.tables place table table there in
     let passes = (position-Some
@@ -86,27 +86,30 @@ record IsRowAt (desc : DescOf) (feed number : ℕ) (row : DRow) : Type 0 where
   pub fits : FitsRow desc feed row
   pub numbered : row.number ≡ number
 
--- a record that is a row is such a one
-row_of-fits : (desc : DescOf) (feed number : ℕ) (fields : List (List ℕ)) (row : DRow)
+-- the cells of a row of a raw table are such a row
+IsRowAt-cells : (desc : DescOf) (feed number place : ℕ) (name : List ℕ) (fields : List (List ℕ))
+    (row : DRow) (there : Option TableOf)
+    → find_raw_table desc feed name ≡ Some place → slice_get desc.tables place ≡ there
+    → option_map (λ cells. record { number = number; table = place; cells = cells })
+    (table_cells there fields) ≡ Some row
+    → IsRowAt desc feed number row
+IsRowAt-cells desc feed number place name fields row None found there made = absurd cc
+IsRowAt-cells desc feed number place name fields row (Some table) found there made =
+    let raw = is_raw_of-find_raw_table desc feed place name table found there in
+    option_map-some _ (table_cells (Some table) fields) row made (λ cells read same.
+    subst (IsRowAt desc feed number) same (record {
+      fits = rw there (IsRowOf-table_cells feed table fields cells raw read);
+      numbered = refl;
+    }))
+
+-- so is what a record is read as
+IsRowAt-row_of : (desc : DescOf) (feed number : ℕ) (fields : List (List ℕ)) (row : DRow)
     → row_of desc feed number fields ≡ Some row → IsRowAt desc feed number row
-row_of-fits desc feed number [] row read = absurd cc
-row_of-fits desc feed number (name ∷ fields) row read =
+IsRowAt-row_of desc feed number [] row read = absurd cc
+IsRowAt-row_of desc feed number (name ∷ fields) row read =
     option_and_then_some _ (find_raw_table desc feed name) row read
-    (λ place found made. of_table place (slice_get desc.tables place) found refl made)
-  where
-    of_table : (place : ℕ) (there : Option TableOf) → find_raw_table desc feed name ≡ Some place
-        → slice_get desc.tables place ≡ there
-        → option_map (λ cells. record { number = number; table = place; cells = cells })
-        (table_cells there fields) ≡ Some row
-        → IsRowAt desc feed number row
-    of_table place None found there made = absurd cc
-    of_table place (Some table) found there made =
-        let raw = find_raw_table-raw desc feed place name table found there in
-        option_map-some _ (table_cells (Some table) fields) row made (λ cells read same.
-        subst (IsRowAt desc feed number) same (record {
-          fits = rw there (table_cells-fit feed table fields cells raw read);
-          numbered = refl;
-        }))
+    (λ place found made. IsRowAt-cells desc feed number place name fields row
+    (slice_get desc.tables place) found refl made)
 
 -- rows of records that are numbered from here on
 record AreRowsFrom (desc : DescOf) (feed number : ℕ) (rows : List DRow) : Type 0 where
@@ -114,7 +117,7 @@ record AreRowsFrom (desc : DescOf) (feed number : ℕ) (rows : List DRow) : Type
   pub from : All (λ (row : DRow). number ≤ row.number) rows
   pub rising : AllAdjacentBelow (λ (row next : DRow). row.number < next.number) rows (length rows)
 
--- one row before those behind it
+-- a row before those of later records
 AreRowsFrom-cons : (desc : DescOf) (feed number : ℕ) (row : DRow) (rows : List DRow)
     → IsRowAt desc feed number row → AreRowsFrom desc feed (number + 1) rows
     → AreRowsFrom desc feed number (row ∷ rows)
@@ -127,20 +130,20 @@ AreRowsFrom-cons desc feed number row rows here rest = record {
 }
 
 -- records are read as such rows
-rows_from-fit : (desc : DescOf) (feed number : ℕ) (records : List (List (List ℕ)))
+AreRowsFrom-rows_from : (desc : DescOf) (feed number : ℕ) (records : List (List (List ℕ)))
     (rows : List DRow)
     → rows_from desc feed number records ≡ Some rows → AreRowsFrom desc feed number rows
-rows_from-fit desc feed number [] rows read = subst (AreRowsFrom desc feed number)
+AreRowsFrom-rows_from desc feed number [] rows read = subst (AreRowsFrom desc feed number)
     (same_Some _ _ read)
     (record { fit = All-nil _; from = All-nil _; rising = λ index default within. absurd (omega arith) })
-rows_from-fit desc feed number (fields ∷ others) rows read =
+AreRowsFrom-rows_from desc feed number (fields ∷ others) rows read =
     with_first-some _ _ rows read (λ row rest first behind same.
     subst (AreRowsFrom desc feed number) same (AreRowsFrom-cons desc feed number row rest
-    (row_of-fits desc feed number fields row first)
-    (rows_from-fit desc feed (number + 1) others rest behind)))
+    (IsRowAt-row_of desc feed number fields row first)
+    (AreRowsFrom-rows_from desc feed (number + 1) others rest behind)))
 
 -- the rows of a body fit
 pub rows_fit : RowsFit
 rows_fit desc feed body rows read =
-    let fit = rows_from-fit desc feed 1 (records_of body) rows read in
+    let fit = AreRowsFrom-rows_from desc feed 1 (records_of body) rows read in
     record { fit = fit.fit; from_one = fit.from; rising = fit.rising }

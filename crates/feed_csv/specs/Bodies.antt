@@ -72,7 +72,8 @@ rows_from desc feed number (fields ∷ others) =
 abbrev pub records_of : List ℕ → List (List (List ℕ))
 records_of body = records default_config (strip_bom body)
 
--- the reader stands at the start of a body, with the default setup of CSV readers but no header
+-- the reader stands at the start of a body, with the default setup of CSV readers except that it
+-- reads no header
 pub record BeginsBody {R : Type 0} (rem : R → Option (List ℕ)) (body : List ℕ)
     (reader : Reader R) : Type 0 where
   pub plain : reader_trim reader ≡ trim.None

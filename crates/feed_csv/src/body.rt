@@ -18,7 +18,7 @@ use depot_cell::{Cell, Memory, Row};
 use std::alloc::Global;
 use table_desc::{Column, DRow, END, Kind, Served, Table, field_cell, is_word};
 
-/// The rows of a body of up to 16,777,216 bytes, or `None` where some record is no row. The
+/// The rows of a body of up to 16,777,216 bytes, or `None` if some record is no row. The
 /// vector keeps no spare room.
 pub fn read_rows(
     alloc: Global,
@@ -133,7 +133,7 @@ fn is_raw_of(feed: u16, kind: &Kind) -> bool
     }
 }
 
-/// The cells that the fields behind the first are as a row of a table.
+/// The cells that the fields after the first are as a row of a table.
 fn table_cells(alloc: Global, table: &Table, fields: &ByteRecord) -> Result<Option<Row>, Memory>
     requires named { 1 ≤ length (fields_of fields.now) }
     ensures exact { IfOk result (λ cells.
@@ -145,7 +145,7 @@ fn table_cells(alloc: Global, table: &Table, fields: &ByteRecord) -> Result<Opti
     }
 }
 
-/// The cells that the fields behind the first are by their columns.
+/// The cells that the fields after the first are by their columns.
 fn read_cells(alloc: Global, columns: &[Column], fields: &ByteRecord) -> Result<Option<Row>, Memory>
     requires named { 1 ≤ length (fields_of fields.now) }
     ensures exact { IfOk result (λ cells.

@@ -1,25 +1,25 @@
--- Lists that are read from the front: what was read, and behind it what the rest is.
+-- Lists that are read from the front: what was read, and after it what the rest is.
 use Rattle.std.proofs.Common.{◌≡◌, List, [], ◌∷◌, ◌++◌, Option, Some, None, refl, sym, ap, append_assoc}
 use Rattle.std.proofs.lemmas.Option.{same_Some}
 use Rattle.table_desc.specs.Front.{with_first}
 
--- more behind a front, where there is more
+-- more after a front, if there is more
 abbrev pub with_front : {X : Type 0} → List X → Option (List X) → Option (List X)
 with_front front None = None
 with_front front (Some others) = Some (front ++ others)
 
 -- nothing before a list is that list
-pub with_front-nil : {X : Type 0} (rest : Option (List X)) → with_front [] rest ≡ rest
-with_front-nil None = refl
-with_front-nil (Some rest) = refl
+pub with_front-empty : {X : Type 0} (rest : Option (List X)) → with_front [] rest ≡ rest
+with_front-empty None = refl
+with_front-empty (Some rest) = refl
 
 -- the first of the rest goes to the front
-pub with_front-first : {X : Type 0} (front : List X) (first : X) (rest : Option (List X))
+pub with_front-push : {X : Type 0} (front : List X) (first : X) (rest : Option (List X))
     → with_front front (with_first (Some first) rest) ≡ with_front (front ++ first ∷ []) rest
-with_front-first front first None = refl
-with_front-first front first (Some rest) = ap Some (sym (append_assoc front (first ∷ []) rest))
+with_front-push front first None = refl
+with_front-push front first (Some rest) = ap Some (sym (append_assoc front (first ∷ []) rest))
 
--- no list where the rest is none
+-- no list if the rest is none
 pub with_first-none : {X : Type 0} (first : Option X) → with_first first None ≡ None
 with_first-none None = refl
 with_first-none (Some first) = refl

@@ -1,3 +1,4 @@
+pub mod ListLemmas
 pub mod FrontLemmas
 pub mod NameLemmas
 pub mod ColumnLemmas

@@ -1,18 +1,19 @@
 -- A description stays served if one table is added: `IsServed-push`. The tables that lines say may
--- be added: `read_table-next`.
-use Rattle.std.proofs.Common.{◌≡◌, ℕ, zero, suc, ◌<◌, ◌≤◌, ◌++◌, List, [], ◌∷◌, Option, Some, None, Bool, true, false, length, subst, ap, refl, arith, rules, tests}
+-- be added: `IsNextTable-read_table`.
+use Rattle.std.proofs.Common.{◌≡◌, ℕ, ◌<◌, ◌≤◌, ◌++◌, List, [], ◌∷◌, Option, Some, None, Bool, true, false, length, subst, ap, refl, arith, rules, tests}
 use Rattle.std.specs.Prelude.{All, slice_get, option_and_then, option_map, if◌then◌else◌, not, pos, codes}
 use Rattle.std.specs.Str.{bytes_eq}
 use Rattle.std.proofs.lemmas.List.{length-append}
 use Rattle.std.proofs.lemmas.List.Elements.{All-cons, All-nil, All-push}
 use Rattle.std.proofs.lemmas.Bool.{eqb-true}
 use Rattle.std.proofs.lemmas.Option.{cond_some, option_and_then_some, same_Some, slice_get_within}
+use Rattle.table_desc.proofs.ListLemmas.{each_place-push, if-some, slice_get-push}
 use Rattle.table_desc.specs.KindValues.{Raw}
 use Rattle.table_desc.specs.declared.table.Column.{Column}
 use Rattle.table_desc.specs.declared.view.Src.{Src}
 use Rattle.table_desc.specs.Descriptions.{DescOf}
 use Rattle.table_desc.specs.Tables.{TableOf}
-use Rattle.table_desc.specs.Sources.{IsAligned, HasEarlierSources, kind_sources, table_width, width_of}
+use Rattle.table_desc.specs.Sources.{HasAlignedSources, IsAligned, HasEarlierSources, kind_sources, table_width, width_of}
 use Rattle.table_desc.specs.Served.{IsNextTable, IsServed}
 use Rattle.table_desc.specs.Names.{find_feed, find_table}
 use Rattle.table_desc.specs.Columns.{are_columns, columns_of, kept_columns, find_time}
@@ -21,25 +22,6 @@ use Rattle.table_desc.specs.Selections.{SelectionOf, read_selection}
 use Rattle.table_desc.specs.Filters.{filter_over, read_filter, filter_table, is_filter, is_multiple}
 use Rattle.table_desc.specs.Grammar.{read_table}
 
--- what is so of each place of a list, and of one more element at its end, is so of each place
-each_place-push : {X : Type 0} (P : ℕ → X → Type 0) (xs : List X) (last : X)
-    → ((place : ℕ) (x : X) → slice_get xs place ≡ Some x → P place x)
-    → P (length xs) last
-    → (place : ℕ) (x : X) → slice_get (xs ++ last ∷ []) place ≡ Some x → P place x
-each_place-push P [] last each here zero x there = subst (P 0) (search (rules, there)) here
-each_place-push P [] last each here (suc place) x there = absurd cc
-each_place-push P (first ∷ xs) last each here zero x there = each 0 x there
-each_place-push P (first ∷ xs) last each here (suc place) x there =
-    each_place-push (λ place. P (suc place)) xs last (λ place. each (suc place)) here place x there
-
--- an element keeps its place where one more is added
-slice_get-push : {X : Type 0} (xs : List X) (last : X) (place : ℕ) → place < length xs
-    → slice_get (xs ++ last ∷ []) place ≡ slice_get xs place
-slice_get-push [] last place within = absurd (omega (arith, within))
-slice_get-push (x ∷ xs) last zero within = refl
-slice_get-push (x ∷ xs) last (suc place) within =
-    slice_get-push xs last place (omega (arith, within))
-
 -- the width of an earlier table stays
 table_width-push : (desc : DescOf) (table : TableOf) (number : ℕ) → number < length desc.tables
     → table_width (record desc { tables = desc.tables ++ table ∷ [] }) number
@@ -47,22 +29,33 @@ table_width-push : (desc : DescOf) (table : TableOf) (number : ℕ) → number <
 table_width-push desc table number within =
     ap width_of (slice_get-push desc.tables table number within)
 
--- sources stay aligned where one more table is added
-aligned-push : (desc : DescOf) (table : TableOf) (width : ℕ) (sources : List Src)
+-- sources stay aligned if one more table is added
+IsAligned-push : (desc : DescOf) (table : TableOf) (width : ℕ) (sources : List Src)
     → All (λ (src : Src). src.table < length desc.tables) sources
     → All (λ (src : Src). IsAligned width (table_width desc src.table) src.span) sources
     → All (λ (src : Src). IsAligned width
     (table_width (record desc { tables = desc.tables ++ table ∷ [] }) src.table) src.span) sources
-aligned-push desc table width sources earlier aligned = λ index default within.
+IsAligned-push desc table width sources earlier aligned = λ index default within.
     rw (table_width-push desc table _ (earlier index default within)) (aligned index default within)
 
 -- the sources of a table that is there are there
-earlier-there : (desc : DescOf) (number : ℕ) (table : TableOf) → HasEarlierSources desc
+earlier-le : (desc : DescOf) (number : ℕ) (table : TableOf) → HasEarlierSources desc
     → slice_get desc.tables number ≡ Some table
     → All (λ (src : Src). src.table < length desc.tables) (kind_sources table.kind)
-earlier-there desc number table earlier there =
+earlier-le desc number table earlier there =
     let within = slice_get_within desc.tables number table there in
     λ index default inside. omega (arith, within, earlier number table there index default inside)
+
+-- each source of each view stays aligned
+HasAlignedSources-push : (desc : DescOf) (table : TableOf) → IsServed desc → IsNextTable desc table
+    → HasAlignedSources (record desc { tables = desc.tables ++ table ∷ [] })
+HasAlignedSources-push desc table served next = each_place-push
+    (λ (number : ℕ) (other : TableOf). All (λ (src : Src). IsAligned other.width (table_width
+    (record desc { tables = desc.tables ++ table ∷ [] }) src.table) src.span)
+    (kind_sources other.kind)) desc.tables table
+    (λ number other there. IsAligned-push desc table other.width (kind_sources other.kind)
+    (earlier-le desc number other served.earlier there) (served.aligned number other there))
+    (IsAligned-push desc table table.width (kind_sources table.kind) next.earlier next.aligned)
 
 -- one more table keeps a description served
 pub IsServed-push : (desc : DescOf) (table : TableOf) → IsServed desc → length desc.tables < 64
@@ -76,13 +69,7 @@ IsServed-push desc table served room next = record {
   earlier = each_place-push (λ (number : ℕ) (table : TableOf).
       All (λ (src : Src). src.table < number) (kind_sources table.kind)) desc.tables table
       served.earlier next.earlier;
-  aligned = each_place-push (λ (number : ℕ) (other : TableOf).
-      All (λ (src : Src). IsAligned other.width (table_width
-      (record desc { tables = desc.tables ++ table ∷ [] }) src.table) src.span)
-      (kind_sources other.kind)) desc.tables table
-      (λ number other there. aligned-push desc table other.width (kind_sources other.kind)
-      (earlier-there desc number other served.earlier there) (served.aligned number other there))
-      (aligned-push desc table table.width (kind_sources table.kind) next.earlier next.aligned);
+  aligned = HasAlignedSources-push desc table served next;
 }
 
 -- so does a push that may be refused
@@ -95,16 +82,16 @@ IsServed-pushed desc table tables true served room next made =
 IsServed-pushed desc table tables false served room next made = rw made served
 
 -- the columns of a table are at most 16
-are_columns-few : (columns : List Column) → are_columns columns ≡ true → length columns ≤ 16
-are_columns-few columns fit = search (rules, tests)
+are_columns-le : (columns : List Column) → are_columns columns ≡ true → length columns ≤ 16
+are_columns-le columns fit = search (rules, tests)
 
 -- a raw table may be added
-raw_table-next : (desc : DescOf) (name feed width time : List ℕ) (columns : List Column)
+IsNextTable-raw_table : (desc : DescOf) (name feed width time : List ℕ) (columns : List Column)
     (table : TableOf)
     → raw_table desc name feed width time columns ≡ Some table → IsNextTable desc table
-raw_table-next desc name feed width time columns table said =
+IsNextTable-raw_table desc name feed width time columns table said =
     made (are_columns columns) (find_feed desc feed) (read_width width) (find_time columns time)
-    (are_columns-few columns) said
+    (are_columns-le columns) said
   where
     made : (fit : Bool) (feed width time : Option ℕ) → (fit ≡ true → length columns ≤ 16)
         → (if not fit then None else option_and_then (λ feed. option_and_then (λ width.
@@ -118,70 +105,64 @@ raw_table-next desc name feed width time columns table said =
     made _ _ _ _ few said = absurd cc
 
 -- a filter over a table that is there may be added
-filter_table-next : (desc : DescOf) (name : List ℕ) (width source : ℕ) (table : TableOf)
+IsNextTable-filter_table : (desc : DescOf) (name : List ℕ) (width source : ℕ) (table : TableOf)
     (selection : SelectionOf) (filter : TableOf)
     → slice_get desc.tables source ≡ Some table
     → filter_table name width source table selection ≡ Some filter → IsNextTable desc filter
-filter_table-next desc name width source table selection filter there said =
+IsNextTable-filter_table desc name width source table selection filter there said =
     let made = cond_some _ _ _ said in
     let fit : are_columns (kept_columns table.columns selection.keep) ≡ true = search (rules, made.0) in
     let whole : is_multiple width table.width ≡ true = search (rules, made.0) in
     let own : IsAligned width (table_width desc source) (record { lo = pos 0; hi = pos 0 }) =
     record { lo = refl; hi = refl; whole = rw there (eqb-true _ _ whole) } in
     subst (IsNextTable desc) made.1 (record {
-      columns = are_columns-few _ fit;
+      columns = are_columns-le _ fit;
       earlier = All-cons (λ (src : Src). src.table < length desc.tables) _ []
           (slice_get_within desc.tables source table there) (All-nil _);
       aligned = All-cons (λ (src : Src). IsAligned width (table_width desc src.table) src.span)
           _ [] own (All-nil _);
     })
 
--- what is there under a test that passes is there
-there-if : {X : Type 0} (test : Bool) (found : Option X) (x : X)
-    → (if test then found else None) ≡ Some x → found ≡ Some x
-there-if true found x there = there
-there-if false found x there = absurd cc
-
 -- what words say after `raw` and a name may be added
-read_raw_table-next : (desc : DescOf) (name : List ℕ) (words : List (List ℕ)) (table : TableOf)
+IsNextTable-read_raw_table : (desc : DescOf) (name : List ℕ) (words : List (List ℕ)) (table : TableOf)
     → read_raw_table desc name words ≡ Some table → IsNextTable desc table
-read_raw_table-next desc name (feed ∷ of_feed ∷ width ∷ ticks ∷ time ∷ of_time ∷ cols ∷ columns) table
+IsNextTable-read_raw_table desc name (feed ∷ of_feed ∷ width ∷ ticks ∷ time ∷ of_time ∷ cols ∷ columns) table
     said =
     option_and_then_some (raw_table desc name of_feed ticks of_time) (columns_of columns) table
-    (there-if (are_raw_keywords feed width time cols) _ table said)
-    (λ columns there made. raw_table-next desc name of_feed ticks of_time columns table made)
-read_raw_table-next desc name _ table said = absurd cc
+    (if-some (are_raw_keywords feed width time cols) _ table said)
+    (λ columns there made. IsNextTable-raw_table desc name of_feed ticks of_time columns table made)
+IsNextTable-read_raw_table desc name _ table said = absurd cc
 
 -- a filter over a table that may be there may be added
-filter_over-next : (desc : DescOf) (name ticks : List ℕ) (words : List (List ℕ)) (source : ℕ)
+IsNextTable-filter_over : (desc : DescOf) (name ticks : List ℕ) (words : List (List ℕ)) (source : ℕ)
     (found : Option TableOf) (filter : TableOf)
     → slice_get desc.tables source ≡ found
     → filter_over name ticks words source found ≡ Some filter → IsNextTable desc filter
-filter_over-next desc name ticks words source None filter there said = absurd cc
-filter_over-next desc name ticks words source (Some table) filter there said =
+IsNextTable-filter_over desc name ticks words source None filter there said = absurd cc
+IsNextTable-filter_over desc name ticks words source (Some table) filter there said =
     option_and_then_some _ (read_width ticks) filter said (λ width wide made.
     option_and_then_some _ (read_selection table.columns words) filter made (λ selection read made.
-    filter_table-next desc name width source table selection filter there made))
+    IsNextTable-filter_table desc name width source table selection filter there made))
 
 -- what words say after `view` and a name may be added
-read_filter-next : (desc : DescOf) (name : List ℕ) (words : List (List ℕ)) (filter : TableOf)
+IsNextTable-read_filter : (desc : DescOf) (name : List ℕ) (words : List (List ℕ)) (filter : TableOf)
     → read_filter desc name words ≡ Some filter → IsNextTable desc filter
-read_filter-next desc name (width ∷ ticks ∷ word ∷ source ∷ lo ∷ hi ∷ given ∷ words) filter said =
+IsNextTable-read_filter desc name (width ∷ ticks ∷ word ∷ source ∷ lo ∷ hi ∷ given ∷ words) filter said =
     option_and_then_some _ (find_table desc source) filter
-    (there-if (is_filter width word lo hi given) _ filter said) (λ source named made.
-    filter_over-next desc name ticks words source _ filter refl made)
-read_filter-next desc name _ filter said = absurd cc
+    (if-some (is_filter width word lo hi given) _ filter said) (λ source named made.
+    IsNextTable-filter_over desc name ticks words source _ filter refl made)
+IsNextTable-read_filter desc name _ filter said = absurd cc
 
 -- what words say after a keyword and a name may be added
-pub read_table-next : (desc : DescOf) (keyword name : List ℕ) (words : List (List ℕ))
+pub IsNextTable-read_table : (desc : DescOf) (keyword name : List ℕ) (words : List (List ℕ))
     (table : TableOf) → read_table desc keyword name words ≡ Some table → IsNextTable desc table
-read_table-next desc keyword name words table said =
+IsNextTable-read_table desc keyword name words table said =
     by_keyword (bytes_eq keyword (codes "raw")) (bytes_eq keyword (codes "view")) said
   where
     by_keyword : (raw view : Bool)
         → (if raw then read_raw_table desc name words
         else if view then read_filter desc name words else None) ≡ Some table
         → IsNextTable desc table
-    by_keyword true view said = read_raw_table-next desc name words table said
-    by_keyword false true said = read_filter-next desc name words table said
+    by_keyword true view said = IsNextTable-read_raw_table desc name words table said
+    by_keyword false true said = IsNextTable-read_filter desc name words table said
     by_keyword false false said = absurd cc

@@ -14,7 +14,7 @@ ty_named word =
     if bytes_eq word (codes "int") then Some ty.Int
     else if bytes_eq word (codes "text") then Some ty.Text else None
 
--- a column of these parts, where the name is one
+-- a column of these parts, if the name is one
 abbrev pub column_from : (name ty : List ℕ) → Option Column
 column_from name ty =
     if is_name name then option_map (λ ty. record { name = name; ty = ty }) (ty_named ty) else None

@@ -33,7 +33,7 @@ is_multiple width of = (width % of) == 0
 abbrev pub reads_few : (width of : ℕ) → Bool
 reads_few width of = nat_le width (1024 * of)
 
--- the filter with this name over a source, where its parts may stand together: 1 to 8 conditions,
+-- the filter with this name over a source, if its parts may stand together: 1 to 8 conditions,
 -- columns of which no two have one name, and a width that the source's divides, at most 1,024 times
 abbrev pub filter_table : (name : List ℕ) → (width : ℕ) → (source : ℕ) → TableOf → SelectionOf
     → Option TableOf
@@ -59,7 +59,7 @@ filter_over name ticks words source (Some table) =
     (read_selection table.columns words))
     (read_width ticks)
 
--- the filter of these parts, where the words behind `where` tell its conditions and kept columns
+-- the filter of these parts, of which the words after `where` say its conditions and kept columns
 abbrev pub filter_from : DescOf → (name ticks source : List ℕ) → (words : List (List ℕ))
     → Option TableOf
 filter_from desc name ticks source words = option_and_then

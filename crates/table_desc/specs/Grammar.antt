@@ -20,14 +20,14 @@ with_table desc name table =
     then option_map (λ table. record desc { tables = desc.tables ++ table ∷ [] }) table
     else None
 
--- a description with its feed: one alone is read yet
+-- a description with its feed: only one is read yet
 abbrev pub with_feed : DescOf → List ℕ → Option DescOf
 with_feed desc name =
     if is_empty desc.feeds && is_name name
     then Some (record desc { feeds = record { name = name; header = false } ∷ [] })
     else None
 
--- the table with this name that a keyword and the words behind the name say
+-- the table with this name that a keyword and the words after the name say
 abbrev pub read_table : DescOf → (keyword name : List ℕ) → (words : List (List ℕ)) → Option TableOf
 read_table desc keyword name words =
     if bytes_eq keyword (codes "raw") then read_raw_table desc name words
@@ -59,7 +59,7 @@ with_declared before None =
     record before { lines = before.lines + 1; bad = Some (before.lines + 1) }
 with_declared before (Some desc) = record before { desc = desc; lines = before.lines + 1 }
 
--- the lines with one more: behind a bad one no line is looked at
+-- the lines with one more: after a bad one no line is looked at
 abbrev pub with_line : Described → List ℕ → Described
 with_line before line =
     if is_some before.bad || is_skipped (words line) then record before { lines = before.lines + 1 }

@@ -16,7 +16,7 @@ read_width word = option_and_then
     (λ ticks. if nat_le 1 ticks && nat_le ticks END then Some ticks else None)
     (number_of word)
 
--- a raw table of these parts, where they may stand together
+-- a raw table of these parts, if they may stand together
 abbrev pub raw_table : DescOf → (name feed width time : List ℕ) → List Column → Option TableOf
 raw_table desc name feed width time columns =
     if not (are_columns columns) then None
@@ -34,7 +34,7 @@ abbrev pub raw_table_from : DescOf → (name feed width time : List ℕ) → (co
 raw_table_from desc name feed width time columns =
     option_and_then (raw_table desc name feed width time) (columns_of columns)
 
--- whether these are the keywords behind a raw table's name, in order
+-- whether these are the keywords after a raw table's name, in order
 abbrev pub are_raw_keywords : (feed width time cols : List ℕ) → Bool
 are_raw_keywords feed width time cols = bytes_eq feed (codes "feed")
     && bytes_eq width (codes "width") && bytes_eq time (codes "time")

@@ -31,7 +31,7 @@ abbrev pub literal_for : Option Column → List ℕ → Option Cell
 literal_for None word = None
 literal_for (Some column) word = result_ok (cell_of column.ty word)
 
--- the condition that words tell of a table with these columns
+-- the condition that words say of a table with these columns
 abbrev pub cond_of : List Column → (name op literal : List ℕ) → Option Cond
 cond_of columns name op literal =
     option_and_then (λ column.
@@ -44,7 +44,7 @@ pub record SelectionOf : Type 0 where
   pub conds : List Cond
   pub keep : List ℕ
 
--- a selection with this condition alone
+-- a selection with only this condition
 abbrev pub last_cond : Option Cond → Option (List ℕ) → Option SelectionOf
 last_cond None keep = None
 last_cond (Some cond) None = None
@@ -56,7 +56,7 @@ more_cond None selection = None
 more_cond (Some cond) None = None
 more_cond (Some cond) (Some selection) = Some (record selection { conds = cond ∷ selection.conds })
 
--- the selection that the words behind `where` tell: `C OP LIT [and C OP LIT ..] keep C ..`
+-- the selection that the words after `where` say: `C OP LIT [and C OP LIT ..] keep C ..`
 abbrev pub read_selection : List Column → List (List ℕ) → Option SelectionOf
 read_selection columns (name ∷ op ∷ literal ∷ next ∷ words) =
     if bytes_eq next (codes "keep")

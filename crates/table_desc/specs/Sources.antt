@@ -6,7 +6,7 @@ use Rattle.table_desc.specs.Descriptions.{DescOf}
 use Rattle.table_desc.specs.Tables.{TableOf}
 use Rattle.table_desc.specs.KindValues.{KindOf, Raw, Filter, Group, Join}
 
--- the width of a table, and 0 where there is none
+-- the width of a table, and 0 if there is none
 abbrev pub width_of : Option TableOf → ℕ
 width_of None = 0
 width_of (Some table) = table.width

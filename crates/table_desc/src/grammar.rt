@@ -1,7 +1,7 @@
 //! The reading of descriptions, line by line.
 //!
 //! Each kind of line has a file of its own. [`Draft`] puts the lines together. The language is
-//! told in `docs/FORMATS.md`.
+//! in `docs/FORMATS.md`.
 
 mod columns;
 mod draft;

@@ -14,7 +14,7 @@ use std::alloc::Global;
 /// The most columns of a table.
 const MOST_COLUMNS: usize = 16;
 
-/// The columns that words declare, or none where a word declares no column.
+/// The columns that words declare, or none if a word declares no column.
 pub fn columns_of(alloc: Global, words: &[&[u8]]) -> Result<Option<Vec<Column>>, Memory>
     ensures exact { IfOk result (λ found.
         option_map (λ columns. columns.items) found

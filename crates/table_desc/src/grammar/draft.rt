@@ -51,7 +51,7 @@ impl Draft {
         }
     }
 
-    /// Reads one more line, which is given without its LF. Behind a bad line no line is looked at.
+    /// Reads one more line, which is given without its LF. After a bad line no line is looked at.
     pub fn add_line(&mut self, alloc: Global, line: &[u8]) -> Result<(), Memory>
         requires few { self.old.lines < 2 ^ 40 }
         ensures ok { OnOk result (self.new ≡ with_line self.old line.now) }

@@ -27,7 +27,7 @@ impl Model for Selection {
     ghost view = { λ selection. record { conds = selection.conds.items; keep = selection.keep.items } };
 }
 
-/// The selection that words tell of a source with these columns, if they tell one:
+/// The selection that words say of a source with these columns, if they say one:
 /// `C OP LIT [and C OP LIT ..] keep C ..`.
 pub fn read_selection(
     alloc: Global,

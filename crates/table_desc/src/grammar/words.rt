@@ -53,7 +53,7 @@ pub fn is_skipped(words: &[&[u8]]) -> bool
     }
 }
 
-/// Whether these are the words of the line that ends a description: `go` alone.
+/// Whether these are the words of the line that ends a description: only `go`.
 pub fn is_go(words: &[&[u8]]) -> bool
     ensures exact { result ≡ is_go (map (λ word. word.now) words.now) }
 {

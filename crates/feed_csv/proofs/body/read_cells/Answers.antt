@@ -3,14 +3,14 @@ use Rattle.std.proofs.lemmas.Grind.{common_steps}
 use Rattle.std.proofs.lemmas.List.{length-drop}
 use Rattle.csv.proofs.RecordFacts.{field-there}
 use Rattle.csv.specs.Records.{fields_of}
-use Rattle.feed_csv.proofs.BodyLemmas.{ReadsCells-more, ReadsCells-none, cells_of-lengths, field_at-behind}
+use Rattle.feed_csv.proofs.BodyLemmas.{ReadsCells-push, ReadsCells-none, cells_of-none, field_at-drop}
 use Rattle.feed_csv.proofs.body.read_cells.Goals as goal
 
 pub returns-then-len-columns : goal.returns-then-len-columns
 returns-then-len-columns c =
     let fewer = length-drop 1 (fields_of c.args.fields.now) in
     record {
-      exact = sym (cells_of-lengths _ _
+      exact = sym (cells_of-none _ _
           (λ (same : length c.args.columns.now
           ≡ length (drop 1 (fields_of c.args.fields.now))). omega arith));
     }
@@ -26,7 +26,7 @@ returns-in_default-2 c = record {
       c.loop-place.place c.loop-place.cells c.index-columns-place.result c.in-Some.field.now
       c.loop-place.invariant c.loop-place-test.true (sym c.index-columns-place.is)
       (sym (c.in-Some.ensures.value
-      ∙ field_at-behind (fields_of c.args.fields.now) c.loop-place.place))
+      ∙ field_at-drop (fields_of c.args.fields.now) c.loop-place.place))
       (rw c.in_default-2.is at c.in_ok-cell.ensures.exact);
 }
 
@@ -34,9 +34,9 @@ pub loop-place-preserved : goal.loop-place-preserved
 loop-place-preserved c =
     let pushed : c.push.new.self ≡ c.loop-place.cells ++ c.in-Some-2.cell ∷ [] =
     grind (arith, common_steps) in
-    rw pushed (ReadsCells-more c.args.columns.now (drop 1 (fields_of c.args.fields.now))
+    rw pushed (ReadsCells-push c.args.columns.now (drop 1 (fields_of c.args.fields.now))
     c.loop-place.place c.loop-place.cells c.index-columns-place.result c.in-Some.field.now
     c.in-Some-2.cell c.loop-place.invariant c.loop-place-test.true (sym c.index-columns-place.is)
     (sym (c.in-Some.ensures.value
-    ∙ field_at-behind (fields_of c.args.fields.now) c.loop-place.place))
+    ∙ field_at-drop (fields_of c.args.fields.now) c.loop-place.place))
     (rw c.in-Some-2.is at c.in_ok-cell.ensures.exact))

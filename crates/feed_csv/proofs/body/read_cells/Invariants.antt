@@ -1,4 +1,4 @@
--- the cells so far, and behind them those of the columns that are left, are those of all columns
+-- the cells so far, and after them those of the columns that are left, are those of all columns
 use Rattle.std.proofs.Common.{drop}
 use Rattle.csv.specs.Records.{fields_of}
 use Rattle.feed_csv.proofs.BodyLemmas.{ReadsCells}

@@ -2,7 +2,7 @@ use Rattle.std.proofs.Common.{◌≡◌, ◌∙◌, ◌++◌, ◌∷◌, [], Som
 use Rattle.std.proofs.lemmas.Grind.{common_steps}
 use Rattle.csv.specs.Records.{fields_of}
 use Rattle.feed_csv.proofs.CsvRecords.{Yields-start}
-use Rattle.feed_csv.proofs.BodyLemmas.{ReadsRows-bad, ReadsRows-end, ReadsRows-more, ReadsRows-start}
+use Rattle.feed_csv.proofs.BodyLemmas.{ReadsRows-none, ReadsRows-empty, ReadsRows-push, ReadsRows-start}
 use Rattle.feed_csv.proofs.body.read_records.Goals as goal
 
 pub loop-number-init : goal.loop-number-init
@@ -18,7 +18,7 @@ returns-in-Ok-false c =
     at (c.in-Ok-false.ensures.reads before.yields.plain before.yields.ready) in
     record {
       exact = ap Some c.shrink_to_fit.ensures.items
-          ∙ ReadsRows-end _ _ _ _ c.loop-number.reader c.read_byte_record.new.self _ _
+          ∙ ReadsRows-empty _ _ _ _ c.loop-number.reader c.read_byte_record.new.self _ _
           (fields_of c.read_byte_record.new.row) before read;
     }
 
@@ -28,7 +28,7 @@ returns-in-None c =
     let read = rw c.in-Ok-true.field-0-test
     at (c.in-Ok-true.ensures.reads before.yields.plain before.yields.ready) in
     record {
-      exact = ReadsRows-bad _ _ _ _ c.loop-number.reader c.read_byte_record.new.self _ _
+      exact = ReadsRows-none _ _ _ _ c.loop-number.reader c.read_byte_record.new.self _ _
           (fields_of c.read_byte_record.new.row) before read
           (c.in-Ok-true.ensures.ready before.yields.plain)
           (rw c.in-None.is at c.in_ok-row.ensures.exact);
@@ -41,7 +41,7 @@ loop-number-preserved c =
     at (c.in-Ok-true.ensures.reads before.yields.plain before.yields.ready) in
     let pushed : c.push.new.self.items ≡ c.loop-number.rows.items ++ c.in-Some.row ∷ [] =
     grind (arith, common_steps) in
-    rw pushed (ReadsRows-more _ _ _ _ c.loop-number.reader c.read_byte_record.new.self _ _
+    rw pushed (ReadsRows-push _ _ _ _ c.loop-number.reader c.read_byte_record.new.self _ _
     (fields_of c.read_byte_record.new.row) c.in-Some.row before read
     (c.in-Ok-true.ensures.ready before.yields.plain)
     (rw c.in-Some.is at c.in_ok-row.ensures.exact))

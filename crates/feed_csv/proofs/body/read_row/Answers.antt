@@ -1,6 +1,6 @@
 use Rattle.std.proofs.Common.{Some, None, length, ap, arith}
 use Rattle.csv.specs.Records.{fields_of}
-use Rattle.feed_csv.proofs.BodyLemmas.{field_at-first, row_of-empty, row_of-named, row_of-unnamed}
+use Rattle.feed_csv.proofs.BodyLemmas.{field_at-first, row_of-empty, row_of-named, row_of-none}
 use Rattle.feed_csv.proofs.body.read_row.Goals as goal
 
 pub returns-in_default : goal.returns-in_default
@@ -11,7 +11,7 @@ returns-in_default c = record {
 
 pub returns-in_default-find_raw_table : goal.returns-in_default-find_raw_table
 returns-in_default-find_raw_table c = record {
-  exact = row_of-unnamed c.args.served.now.desc c.args.feed c.args.number
+  exact = row_of-none c.args.served.now.desc c.args.feed c.args.number
       (fields_of c.args.fields.now) c.in-Some.name.now c.in-Some.ensures.value
       (rw c.in_default-find_raw_table.is at c.find_raw_table.ensures.exact);
 }

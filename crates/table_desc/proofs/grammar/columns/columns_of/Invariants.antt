@@ -1,4 +1,4 @@
--- the columns so far, and behind them those of the words that are left, are the columns of all
+-- the columns so far, and after them those of the words that are left, are the columns of all
 -- words
 use Rattle.std.proofs.Common.{◌≡◌, drop, map}
 use Rattle.table_desc.specs.Columns.{columns_of}

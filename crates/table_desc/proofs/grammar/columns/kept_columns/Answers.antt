@@ -1,6 +1,6 @@
 use Rattle.std.proofs.Common.{refl, sym}
 use Rattle.std.proofs.lemmas.Option.{slice_get_past, slice_get_read}
-use Rattle.table_desc.proofs.ColumnLemmas.{kept_columns-found, kept_columns-passed}
+use Rattle.table_desc.proofs.ColumnLemmas.{kept_columns-push, kept_columns-same}
 use Rattle.table_desc.proofs.grammar.columns.kept_columns.Goals.{in-Some+in_ok-copy_column+in_ok-push, in_default}
 use Rattle.table_desc.proofs.grammar.columns.kept_columns.Goals as goal
 
@@ -15,11 +15,11 @@ loop-number-preserved c = elim c.match-get.branch [
         w.in_ok-copy_column.ensures.exact,
         c.loop-number.invariant,
       )
-      (sym (kept_columns-found c.args.columns.now c.args.numbers.now c.loop-number.number-index _ _
+      (sym (kept_columns-push c.args.columns.now c.args.numbers.now c.loop-number.number-index _ _
       c.loop-number-test.true c.from.ensures found))
   | in_default w ↦
       let none = slice_get_past c.args.columns.now c.from.result w.in_default.ensures.lookup.3 in
       rw (w.kept-is, c.loop-number.invariant)
-      (sym (kept_columns-passed c.args.columns.now c.args.numbers.now c.loop-number.number-index _
+      (sym (kept_columns-same c.args.columns.now c.args.numbers.now c.loop-number.number-index _
       c.loop-number-test.true c.from.ensures none))
 ]

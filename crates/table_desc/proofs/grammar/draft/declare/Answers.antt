@@ -1,6 +1,6 @@
 use Rattle.std.proofs.Common.{ℕ, ◌≤◌, Bor, List, [], length, arith}
 use Rattle.std.proofs.lemmas.List.{take_rest}
-use Rattle.table_desc.proofs.GrammarLemmas.{declared_by-few, declared_by-more}
+use Rattle.table_desc.proofs.GrammarLemmas.{declared_by-none, declared_by-enough}
 use Rattle.table_desc.proofs.grammar.draft.declare.Goals as goal
 
 -- what a goal has as the word at a place where there is none
@@ -9,17 +9,17 @@ no_word = record { ref_ptr = (0, 0); now = [] }
 
 pub returns-in_default-clause-told : goal.returns-in_default-clause-told
 returns-in_default-clause-told c =
-    rw (declared_by-few c.args.served.now.desc c.args.words.now c.in_default.len_below)
+    rw (declared_by-none c.args.served.now.desc c.args.words.now c.in_default.len_below)
 
 pub returns-in_default-clause-ok : goal.returns-in_default-clause-ok
 returns-in_default-clause-ok c =
-    rw (declared_by-few c.args.served.now.desc c.args.words.now c.in_default.len_below)
+    rw (declared_by-none c.args.served.now.desc c.args.words.now c.in_default.len_below)
 
 pub returns-in-len2-up-clause-told : goal.returns-in-len2-up-clause-told
 returns-in-len2-up-clause-told c =
     let more : 3 ≤ length c.args.words.now = omega arith in
     rw (
-      declared_by-more c.args.served.now.desc c.args.words.now no_word more,
+      declared_by-enough c.args.served.now.desc c.args.words.now no_word more,
       ← take_rest c.args.words.now 2,
     )
     c.declare_table.ensures.told
@@ -28,7 +28,7 @@ pub returns-in-len2-up-clause-ok : goal.returns-in-len2-up-clause-ok
 returns-in-len2-up-clause-ok c =
     let more : 3 ≤ length c.args.words.now = omega arith in
     rw (
-      declared_by-more c.args.served.now.desc c.args.words.now no_word more,
+      declared_by-enough c.args.served.now.desc c.args.words.now no_word more,
       ← take_rest c.args.words.now 2,
     )
     c.declare_table.ensures.ok

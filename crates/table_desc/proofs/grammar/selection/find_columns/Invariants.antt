@@ -1,4 +1,4 @@
--- the numbers so far, and behind them those that the words left name, are those of all words
+-- the numbers so far, and after them those that the words left name, are those of all words
 use Rattle.std.proofs.Common.{◌≡◌, drop, map}
 use Rattle.table_desc.specs.Columns.{find_columns}
 use Rattle.table_desc.proofs.FrontLemmas.{with_front}

@@ -1,4 +1,4 @@
--- the conditions so far, before what the words left tell, are what all words tell
+-- the conditions so far, before what the words left say, are what all words say
 use Rattle.std.proofs.Common.{◌≡◌, length, map}
 use Rattle.table_desc.specs.Selections.{read_selection}
 use Rattle.table_desc.proofs.SelectionLemmas.{with_conds}

@@ -1,0 +1,28 @@
+-- General facts on lists and options.
+use Rattle.std.proofs.Common.{◌≡◌, ℕ, zero, suc, ◌<◌, ◌++◌, List, [], ◌∷◌, Option, Some, None, Bool, true, false, length, subst, refl, arith, rules}
+use Rattle.std.specs.Prelude.{slice_get, if◌then◌else◌}
+
+-- what is so of each place of a list, and of one more element at its end, is so of each place
+pub each_place-push : {X : Type 0} (P : ℕ → X → Type 0) (xs : List X) (last : X)
+    → ((place : ℕ) (x : X) → slice_get xs place ≡ Some x → P place x)
+    → P (length xs) last
+    → (place : ℕ) (x : X) → slice_get (xs ++ last ∷ []) place ≡ Some x → P place x
+each_place-push P [] last each here zero x there = subst (P 0) (search (rules, there)) here
+each_place-push P [] last each here (suc place) x there = absurd cc
+each_place-push P (first ∷ xs) last each here zero x there = each 0 x there
+each_place-push P (first ∷ xs) last each here (suc place) x there =
+    each_place-push (λ place. P (suc place)) xs last (λ place. each (suc place)) here place x there
+
+-- an element keeps its place if one more is added
+pub slice_get-push : {X : Type 0} (xs : List X) (last : X) (place : ℕ) → place < length xs
+    → slice_get (xs ++ last ∷ []) place ≡ slice_get xs place
+slice_get-push [] last place within = absurd (omega (arith, within))
+slice_get-push (x ∷ xs) last zero within = refl
+slice_get-push (x ∷ xs) last (suc place) within =
+    slice_get-push xs last place (omega (arith, within))
+
+-- what is there under a test that passes is there
+pub if-some : {X : Type 0} (test : Bool) (found : Option X) (x : X)
+    → (if test then found else None) ≡ Some x → found ≡ Some x
+if-some true found x there = there
+if-some false found x there = absurd cc
