@@ -1,6 +1,6 @@
 //! What a filter makes of the rows of its source.
 
-ghost use Rattle.std.specs.Prelude.{◌≡◌, ◌++◌, ◌∷◌, [], IfOk, OnOk, slice_get};
+ghost use Rattle.std.specs.Prelude.{◌≡◌, ◌++◌, ◌∷◌, [], IfOk, OnErr, OnOk, slice_get};
 ghost use Rattle.std.specs.List.{list_all};
 ghost use Rattle.std.specs.Option.{option_copied};
 ghost use Rattle.view_meaning.specs.Operations.{cut_to, filtered, meets};
@@ -66,6 +66,7 @@ fn cut_row(alloc: Global, keep: &[u16], row: &Row) -> Result<Row, Memory>
 /// Puts a copy of the row's cell of a column at the end, if the row has one.
 fn push_cell(alloc: Global, row: &Row, column: u16, cut: &mut Row) -> Result<(), Memory>
     ensures ok { OnOk result (cut.new ≡ cut.old ++ cut_to (column ∷ []) row.now) }
+    ensures err { OnErr result (cut.new ≡ cut.old) }
 {
     match cell_at(row, column) {
         Some(cell) => push_copy(alloc, cell, cut),
@@ -76,6 +77,7 @@ fn push_cell(alloc: Global, row: &Row, column: u16, cut: &mut Row) -> Result<(),
 /// Puts a copy of a cell at the end.
 fn push_copy(alloc: Global, cell: &Cell, row: &mut Row) -> Result<(), Memory>
     ensures ok { OnOk result (row.new ≡ row.old ++ cell.now ∷ []) }
+    ensures err { OnErr result (row.new ≡ row.old) }
 {
     match row.push(copy_cell(alloc, cell)?) {
         Ok(()) => Ok(()),

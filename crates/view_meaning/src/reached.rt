@@ -3,7 +3,7 @@
 //! deliveries lie in, and those that read a listed one of an earlier table.
 
 ghost use Rattle.std.specs.Prelude.{ℕ, ◌≡◌, ◌<◌, ◌≤◌, ◌++◌, ◌∷◌, ◌||◌, ◌+◌, ◌/◌, List, [], Some};
-ghost use Rattle.std.specs.Prelude.{IfOk, OnOk, IsSome, All, length, map, option_to_list};
+ghost use Rattle.std.specs.Prelude.{IfOk, OnErr, OnOk, IsSome, All, length, map, option_to_list};
 ghost use Rattle.std.specs.Prelude.{slice_get, slice_set, vec_len};
 ghost use Rattle.std.specs.List.{list_any};
 ghost use Rattle.std.specs.List.Sorted.{IsStrictlyIncreasing};
@@ -57,6 +57,7 @@ fn push_list(lists: &mut Vec<Vec<u64>>, parts: Vec<u64>) -> Result<(), Memory>
     ensures gained { OnOk result (vec_len lists.new ≡ vec_len lists.old + 1) }
     ensures ok { OnOk result
         (lists_of lists.new.items ≡ lists_of lists.old.items ++ parts.items ∷ []) }
+    ensures err { OnErr result (lists_of lists.new.items ≡ lists_of lists.old.items) }
 {
     match lists.push(parts) {
         Ok(()) => Ok(()),
@@ -115,6 +116,7 @@ fn push_row(desc: &Desc, row: &DRow, lists: &mut Vec<Vec<u64>>) -> Result<(), Me
     ensures kept { vec_len lists.new ≡ vec_len lists.old }
     ensures ok { OnOk result (AllGain (takes desc.now row.now)
         (lists_of lists.old.items) (lists_of lists.new.items)) }
+    ensures err { OnErr result (lists_of lists.new.items ≡ lists_of lists.old.items) }
 {
     match part_of(desc, row) {
         Some(part) => push_part(lists, usize::from(row.table), part),
@@ -128,6 +130,7 @@ fn push_part(lists: &mut Vec<Vec<u64>>, table: usize, part: u64) -> Result<(), M
     ensures kept { vec_len lists.new ≡ vec_len lists.old }
     ensures ok { OnOk result (lists_of lists.new.items ≡ slice_set (lists_of lists.old.items) table
         (parts_at (lists_of lists.old.items) table ++ part ∷ [])) }
+    ensures err { OnErr result (lists_of lists.new.items ≡ lists_of lists.old.items) }
 {
     match lists[table].push(part) {
         Ok(()) => Ok(()),

@@ -2,6 +2,7 @@ use Rattle.std.proofs.Common.{◌≡◌, ◌∙◌, ℕ, ◌<◌, List, [], ◌�
 use Rattle.std.proofs.Common.{arith}
 use Rattle.std.specs.Prelude.{Vec}
 use Rattle.std.specs.declared.alloc.Global.{Global}
+use Rattle.std.proofs.Math.Seq.{map-set_same}
 use Rattle.std.proofs.lemmas.List.{map-set}
 use Rattle.view_meaning.specs.PartLists.{lists_of, parts_at}
 use Rattle.view_meaning.proofs.PartListLemmas.{parts_at-lists_of}
@@ -23,3 +24,9 @@ returns-in-Ok-clause-ok c =
     lists_of-set c.args.lists.now.items c.args.table c.args.part c.index_mut.result.now
     c.push.new.self (omega (arith, c.args.lists.now.ok.0)) c.index_mut.ensures.value
     c.in-Ok.ensures.items
+
+pub returns-in-Err-clause-err : goal.returns-in-Err-clause-err
+returns-in-Err-clause-err c =
+    let items = λ (parts : Vec ℕ Global). parts.items in
+    map-set_same items c.args.lists.now.items c.args.table c.push.new.self c.index_mut.result.now
+    (c.in-Err.ensures.items ∙ ap items c.index_mut.ensures.value)
