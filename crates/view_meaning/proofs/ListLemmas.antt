@@ -8,6 +8,7 @@ use Rattle.std.specs.List.{AllPairs, filter, list_all, list_any, range_with_len}
 use Rattle.std.specs.Cmp.Lexicographic.{pointwise}
 use Rattle.std.proofs.Math.Seq.{take-append_seam, drop-append_seam}
 use Rattle.std.proofs.lemmas.Bool.{or_parts, eq-eqb}
+use Rattle.std.proofs.lemmas.List.{length-take, take-append-drop, take-append-le}
 use Rattle.std.proofs.lemmas.List.{append-nil, get_or-map, get_or_append_left, get_or_at}
 use Rattle.std.proofs.lemmas.List.{length-append}
 use Rattle.std.proofs.lemmas.List.Elements.{All-nil, All-cons, All-head, All-tail, All-map}
@@ -15,6 +16,7 @@ use Rattle.std.proofs.lemmas.List.Elements.{All-append, All-same, All-take, All-
 use Rattle.std.proofs.lemmas.List.Folds.{list_any-append, list_any_at}
 use Rattle.std.proofs.lemmas.List.FromFn.{length-range_with_len, get_or-range_with_len}
 use Rattle.std.proofs.lemmas.List.Kept.{AllPairs-cons}
+use Rattle.view_meaning.specs.Growth.{BeginsWith}
 use Rattle.view_meaning.proofs.BoolLemmas.{not-or}
 
 -- two functions that agree on each element of a list map it alike
@@ -347,3 +349,13 @@ AllPairs-range_with_len from many first second default before within =
       get_or-range_with_len from many first default (omega arith),
       get_or-range_with_len from many second default few,
     ) (omega arith)
+
+-- what a list begins with, a list that begins with it begins with too
+pub BeginsWith-step : {X : Type 0} (xs ys zs : List X) → BeginsWith xs ys → BeginsWith ys zs
+    → BeginsWith xs zs
+BeginsWith-step {X = X} xs ys zs first second =
+    ap (λ (list : List X). take (length xs) list) (sym (take-append-drop (length ys) zs))
+    ∙ ap (λ (front : List X). take (length xs) (front ++ drop (length ys) zs)) second
+    ∙ take-append-le (length xs) ys (drop (length ys) zs)
+    (omega (arith, length-take (length xs) ys, ap (λ (list : List X). length list) first))
+    ∙ first

@@ -2,6 +2,7 @@ pub mod Partitions
 pub mod Journal
 pub mod SetAside
 pub mod RawValues
+pub mod Growth
 pub mod TableRows
 pub mod Operations
 pub mod Versions

@@ -3,6 +3,7 @@
 ghost use Rattle.std.specs.Prelude.{◌≡◌, ◌++◌, ◌∷◌, [], IfOk, OnErr, OnOk, slice_get};
 ghost use Rattle.std.specs.List.{list_all};
 ghost use Rattle.std.specs.Option.{option_copied};
+ghost use Rattle.view_meaning.specs.Growth.{BeginsWith};
 ghost use Rattle.view_meaning.specs.Operations.{cut_to, filtered, meets};
 
 use depot_cell::{Cell, Memory, Row, Rows, copy_cell, holds};
@@ -19,6 +20,7 @@ pub(crate) fn filter_rows(
     rows: &mut Rows,
 ) -> Result<(), Memory>
     ensures ok { OnOk result (rows.new ≡ rows.old ++ filtered conds.now keep.now source.now) }
+    ensures err { OnErr result (BeginsWith rows.old rows.new) }
 {
     for row in source.rows() {
         if meets_all(conds, row) && rows.push(cut_row(alloc, keep, row)?).is_err() {

@@ -1,6 +1,6 @@
 //! The definitions as programs: each answer is made anew from all accepted deliveries.
 
-ghost use Rattle.std.specs.Prelude.{◌≡◌, ◌+◌, ◌≤◌, ◌++◌, slice_get, IfOk, OnOk};
+ghost use Rattle.std.specs.Prelude.{◌≡◌, ◌+◌, ◌≤◌, ◌++◌, slice_get, IfOk, OnErr, OnOk};
 ghost use Rattle.std.specs.List.{list_any, range_with_len};
 ghost use Rattle.std.specs.Option.{option_copied};
 ghost use Rattle.table_desc.specs.Kinds.{kind_of};
@@ -8,6 +8,7 @@ ghost use Rattle.table_desc.specs.Sources.{table_width};
 ghost use Rattle.table_desc.specs.Time.{END};
 ghost use Rattle.view_meaning.specs.Partitions.{is_covered, source_parts};
 ghost use Rattle.view_meaning.specs.Journal.{tick_of, row_tick};
+ghost use Rattle.view_meaning.specs.Growth.{BeginsWith};
 ghost use Rattle.view_meaning.specs.RawValues.{raw_value};
 ghost use Rattle.view_meaning.specs.TableRows.{lies_in_table, cells_where};
 ghost use Rattle.view_meaning.specs.Values.{value, value_within};
@@ -130,6 +131,7 @@ fn push_rows(
 ) -> Result<(), Memory>
     ensures ok { OnOk result (rows.new ≡ rows.old
         ++ cells_where (lies_in_table table.now key) delivery.now.rows) }
+    ensures err { OnErr result (BeginsWith rows.old rows.new) }
 {
     for row in &delivery.rows {
         if lies_in_table(table, key, row) && rows.push(copy_row(alloc, &row.cells)?).is_err() {

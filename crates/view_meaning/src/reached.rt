@@ -10,6 +10,7 @@ ghost use Rattle.std.specs.List.Sorted.{IsStrictlyIncreasing};
 ghost use Rattle.table_desc.specs.Sources.{table_width, kind_sources, IsAligned, HasAlignedSources};
 ghost use Rattle.table_desc.specs.Sources.{HasEarlierSources};
 ghost use Rattle.table_desc.specs.Time.{END};
+ghost use Rattle.view_meaning.specs.Growth.{BeginsWith};
 ghost use Rattle.view_meaning.specs.Partitions.{start_of, keys_below, keys_read, is_covered};
 ghost use Rattle.view_meaning.specs.PartLists.{AllGain, AreBrought, AreInTime, Gains, has};
 ghost use Rattle.view_meaning.specs.PartLists.{is_listed, key_of, keys_of_view, lists_of, parts_at};
@@ -175,6 +176,7 @@ fn push_above(
     ensures ok { OnOk result (Gains (λ part.
         list_any (is_listed (lists_of lists.now)) (keys_below desc.now part (Some table.now)))
         parts.old.items parts.new.items) }
+    ensures kept { BeginsWith parts.old.items parts.new.items }
 {
     match &table.kind {
         Kind::Raw { .. } => Ok(()),
@@ -202,6 +204,7 @@ fn push_readers(
     ensures ok { OnOk result (Gains
         (λ part. list_any (is_listed (lists_of lists.now)) (keys_read desc.now width part src.now))
         parts.old.items parts.new.items) }
+    ensures kept { BeginsWith parts.old.items parts.new.items }
 {
     push_wider(
         ticks_of(desc, src.table),
@@ -240,6 +243,7 @@ fn push_wider(
     requires in_time { All (λ part. start_of source_ticks part < END) source_parts.now }
     ensures ok { OnOk result (parts.new.items ≡ parts.old.items
         ++ map (λ part. start_of source_ticks part / ticks) source_parts.now) }
+    ensures kept { BeginsWith parts.old.items parts.new.items }
 {
     for part in source_parts {
         if parts.push(part * source_ticks / ticks).is_err() {
@@ -267,6 +271,7 @@ fn push_view_keys(
 ) -> Result<(), Memory>
     ensures ok { OnOk result
         (keys.new.items ≡ keys.old.items ++ keys_of_view number table.now.kind parts.now) }
+    ensures err { OnErr result (BeginsWith keys.old.items keys.new.items) }
 {
     match &table.kind {
         Kind::Raw { .. } => Ok(()),
@@ -279,6 +284,7 @@ fn push_view_keys(
 /// Puts the partitions of a table with these numbers at the end.
 fn push_keys(table: u16, parts: &[u64], keys: &mut Vec<Key>) -> Result<(), Memory>
     ensures ok { OnOk result (keys.new.items ≡ keys.old.items ++ map (key_of table) parts.now) }
+    ensures err { OnErr result (BeginsWith keys.old.items keys.new.items) }
 {
     for part in parts {
         if keys.push(Key { table, part: *part }).is_err() {

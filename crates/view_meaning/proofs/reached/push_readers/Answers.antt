@@ -9,14 +9,12 @@ push_wider-requires-clause-in_time c =
     (All-in_time c.args.desc.now (lists_of c.args.lists.now) c.args.src.now.table
     c.requires.in_time)
 
-pub returns : goal.returns
-returns c =
+pub returns-clause-ok : goal.returns-clause-ok
+returns-clause-ok c =
     let told = rw (c.ticks_of.ensures.exact, c.ticks.ensures.value, c.parts_of.ensures.exact)
     at c.push_wider.ensures.ok in
-    record {
-      ok = on_ok_weaker c.push_wider.result
-          (λ pushed. Gains-keys_read c.args.desc.now c.args.width c.args.src.now
-          (lists_of c.args.lists.now) c.args.parts.now.items c.push_wider.new.parts.items
-          c.ticks.ensures.in_range.some c.ticks_of.ensures.within c.requires.in_time
-          c.requires.aligned pushed) told;
-    }
+    on_ok_weaker c.push_wider.result
+    (λ pushed. Gains-keys_read c.args.desc.now c.args.width c.args.src.now
+    (lists_of c.args.lists.now) c.args.parts.now.items c.push_wider.new.parts.items
+    c.ticks.ensures.in_range.some c.ticks_of.ensures.within c.requires.in_time
+    c.requires.aligned pushed) told
