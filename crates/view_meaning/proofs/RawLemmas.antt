@@ -77,9 +77,9 @@ raw_version-push desc accepted key delivery =
     (kept_rows-all desc accepted delivery)
 
 -- if there is no such table no row lies in the partition
-lies_in-no_table : (desc : DescOf) (key : Key) → slice_get desc.tables key.table ≡ None
+lies_in-none : (desc : DescOf) (key : Key) → slice_get desc.tables key.table ≡ None
     → (row : DRow) → lies_in desc key row ≡ false
-lies_in-no_table desc key no_table row = rw no_table (and-false (row.table == key.table))
+lies_in-none desc key no_table row = rw no_table (and-false (row.table == key.table))
 
 -- if there is, a row lies in the partition just as it lies in it by the table
 lies_in-table : (desc : DescOf) (key : Key) (table : TableOf)
@@ -132,29 +132,29 @@ raw_version-take desc accepted key table index delivery has_row found below read
     ∙ sym tested)
 
 -- if there is no such table there are no rows
-pub raw_value-no_table : (desc : DescOf) (accepted : List DeliveryOf) (key : Key)
+pub raw_value-none : (desc : DescOf) (accepted : List DeliveryOf) (key : Key)
     → slice_get desc.tables key.table ≡ None → raw_value desc accepted key ≡ []
-raw_value-no_table desc accepted key no_table =
+raw_value-none desc accepted key no_table =
     let rows = kept desc accepted in
     ap (λ (passed : List DRow). map (λ (row : DRow). row.cells) passed)
     (filter-none (lies_in desc key) rows
-    (λ index default _. lies_in-no_table desc key no_table (get_or rows index default)))
+    (λ index default _. lies_in-none desc key no_table (get_or rows index default)))
 
 -- if there is no such table no delivery counts
-loads_after-no_table : (desc : DescOf) (key : Key) (before accepted : List DeliveryOf)
+loads_after-none : (desc : DescOf) (key : Key) (before accepted : List DeliveryOf)
     → slice_get desc.tables key.table ≡ None → loads_after desc key before accepted ≡ 0
-loads_after-no_table desc key before [] no_table = refl
-loads_after-no_table desc key before (delivery ∷ later) no_table =
+loads_after-none desc key before [] no_table = refl
+loads_after-none desc key before (delivery ∷ later) no_table =
     let rows = kept_rows desc before delivery in
     let none : touches desc key before delivery ≡ false =
     list_any_none (lies_in desc key) rows
-    (λ index default _. lies_in-no_table desc key no_table (get_or rows index default)) in
-    rw none (rw (loads_after-no_table desc key (before ++ delivery ∷ []) later no_table) refl)
+    (λ index default _. lies_in-none desc key no_table (get_or rows index default)) in
+    rw none (rw (loads_after-none desc key (before ++ delivery ∷ []) later no_table) refl)
 
 -- if there is no such table the version is 0
-pub raw_version-no_table : (desc : DescOf) (accepted : List DeliveryOf) (key : Key)
+pub raw_version-none : (desc : DescOf) (accepted : List DeliveryOf) (key : Key)
     → slice_get desc.tables key.table ≡ None → raw_version desc accepted key ≡ 0
-raw_version-no_table desc accepted key = loads_after-no_table desc key [] accepted
+raw_version-none desc accepted key = loads_after-none desc key [] accepted
 
 -- the version of a raw table's partition is told by the accepted deliveries
 pub version-raw : (desc : DescOf) (journal : List Entry) (key : Key)

@@ -36,7 +36,7 @@ pub fn reached_keys(alloc: Global, desc: &Desc, deliveries: &[Delivery]) -> Resu
     let mut reached = Vec::new(alloc);
     for mut parts in brought_parts(alloc, desc, deliveries)? {
         let number = reached.len();
-        let table = table_at(desc, number);
+        let table = nth_table(desc, number);
         push_above(desc, table, &reached, &mut parts)?;
         sort_parts(&mut parts);
         push_view_keys(number as u16, table, &parts, &mut keys)?;
@@ -46,7 +46,7 @@ pub fn reached_keys(alloc: Global, desc: &Desc, deliveries: &[Delivery]) -> Resu
 }
 
 /// The table with a number.
-fn table_at(desc: &Desc, number: usize) -> &Table
+fn nth_table(desc: &Desc, number: usize) -> &Table
     requires { number < length desc.now.tables }
     ensures exact { slice_get desc.now.tables number ≡ Some result.now }
 {

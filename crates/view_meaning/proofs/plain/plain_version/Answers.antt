@@ -1,11 +1,11 @@
 use Rattle.std.proofs.Common.{sym, arith}
-use Rattle.view_meaning.proofs.RawLemmas.{raw_version-take, raw_version-no_table}
+use Rattle.view_meaning.proofs.RawLemmas.{raw_version-take, raw_version-none}
 use Rattle.view_meaning.proofs.plain.plain_version.Goals as goal
 use Rattle.view_meaning.proofs.plain.plain_version.Goals.{then-touches, else-touches}
 
 pub returns-in_default : goal.returns-in_default
 returns-in_default c = record {
-  exact = sym (raw_version-no_table c.args.desc.now c.args.accepted.now c.args.key
+  exact = sym (raw_version-none c.args.desc.now c.args.accepted.now c.args.key
       (sym c.in_default.ensures.exact));
 }
 

@@ -1,11 +1,11 @@
 use Rattle.std.proofs.Common.{sym, ◌∙◌}
-use Rattle.view_meaning.proofs.RawLemmas.{raw_value-take, raw_value-no_table}
+use Rattle.view_meaning.proofs.RawLemmas.{raw_value-take, raw_value-none}
 use Rattle.view_meaning.proofs.plain.raw_rows.Goals as goal
 
 pub returns-in_default : goal.returns-in_default
 returns-in_default c = record {
   exact = c.new-rows.ensures
-      ∙ sym (raw_value-no_table c.args.desc.now c.args.accepted.now c.args.key
+      ∙ sym (raw_value-none c.args.desc.now c.args.accepted.now c.args.key
       (sym c.in_default.ensures.exact));
 }
 

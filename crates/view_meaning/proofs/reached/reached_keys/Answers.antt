@@ -18,12 +18,12 @@ push_above-requires-clause-in_time c =
 pub push_above-requires-clause-earlier : goal.push_above-requires-clause-earlier
 push_above-requires-clause-earlier c =
     let number : length c.deref.result.now ≡ c.len-number.result = omega arith in
-    rw number (c.requires.earlier c.len-number.result c.table_at-table.result.now
-    c.table_at-table.ensures.exact)
+    rw number (c.requires.earlier c.len-number.result c.nth_table-table.result.now
+    c.nth_table-table.ensures.exact)
 
 pub push_above-requires-clause-aligned : goal.push_above-requires-clause-aligned
 push_above-requires-clause-aligned c =
-    c.requires.aligned c.len-number.result c.table_at-table.result.now c.table_at-table.ensures.exact
+    c.requires.aligned c.len-number.result c.nth_table-table.result.now c.nth_table-table.ensures.exact
 
 pub loop-parts-preserved : goal.loop-parts-preserved
 loop-parts-preserved c =
@@ -46,11 +46,11 @@ loop-parts-preserved c =
         c.deref-in-loop-parts.ensures.value,
       )
           (AreUpTo-turn c.args.desc.now c.args.deliveries.now c.loop-parts.reached.items
-          c.loop-parts.keys.items c.len-number.result c.table_at-table.result.now brought.items
+          c.loop-parts.keys.items c.len-number.result c.nth_table-table.result.now brought.items
           c.in-Some.parts c.push_above.new.parts.items c.sort_parts.new.parts.items
           c.requires.earlier c.requires.aligned
           record {
-            there = c.table_at-table.ensures.exact;
+            there = c.nth_table-table.ensures.exact;
             last = omega (arith, c.loop-parts.reached.ok.0);
             within = (rw (← yielded) at turn).0;
             read = (rw (← yielded) at turn).1;
