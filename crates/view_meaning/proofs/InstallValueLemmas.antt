@@ -24,8 +24,8 @@ use Rattle.view_meaning.proofs.LegalLemmas.{SawSettled, install_places-saw}
 use Rattle.view_meaning.proofs.ContentLemmas.{content_within-version, operation-joined}
 use Rattle.view_meaning.proofs.GrowLemmas.{content_within-take}
 
--- the sources of an install that saw them settled hold, in the versions that it read, the value over
--- the deliveries that it counted
+-- the sources of an install that saw them settled hold, in the versions that it read, the value
+-- over the deliveries that it counted
 content_within-saw : (desc : DescOf) (journal : List Entry) (key : Key) (place : ℕ)
     → HasEarlierSources desc → IsLegal desc journal → SawSettled desc journal key place
     → All (λ source.

@@ -1,5 +1,5 @@
--- Legal journals: they grow by one entry that may follow, and each install in them is of a view, has
--- a place among their entries, and saw its sources settled.
+-- Legal journals: they grow by one entry that may follow, and each install in them is of a view,
+-- has a place among their entries, and saw its sources settled.
 use Rattle.std.proofs.Common.{◌≡◌, ◌∙◌, ℕ, zero, suc, ◌≤◌, List, [], ◌∷◌, ◌++◌, length, take, sym}
 use Rattle.std.proofs.Common.{ap, subst, inl, inr, arith}
 use Rattle.std.specs.Prelude.{true, false, All, fold, slice_get}
@@ -101,7 +101,8 @@ is_raw-stale desc journal key stale =
     both_ways (is_stale desc journal key)
     (is_stale-no_sources desc journal key (sources_of-raw desc key raw)) stale)
 
--- an install with this place is of a view, and saw its sources settled after an entry of the journal
+-- an install with this place is of a view, and saw its sources settled after some of the
+-- journal's entries
 pub record SawSettled (desc : DescOf) (journal : List Entry) (key : Key)
     (place : ℕ) : Type 0 where
   pub view : is_raw (slice_get desc.tables key.table) ≡ false

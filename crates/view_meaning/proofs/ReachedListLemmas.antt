@@ -180,12 +180,12 @@ pub AreUpTo-push : (desc : DescOf) (deliveries : List DeliveryOf) (lists : List 
     → HasEarlierSources desc → HasAlignedSources desc → number ≡ length lists
     → IsNext desc deliveries number table parts → AreUpTo desc deliveries lists keys
     → AreUpTo desc deliveries (lists ++ parts ∷ []) (keys ++ keys_of_view number table.kind parts)
-AreUpTo-push desc deliveries lists keys number table parts earlier aligned last next up_to = record {
-  listed = AllReached-push desc deliveries lists parts up_to.listed (rw last at next.exact);
+AreUpTo-push desc deliveries lists keys number table parts earlier aligned end next up_to = record {
+  listed = AllReached-push desc deliveries lists parts up_to.listed (rw end at next.exact);
   told = ap (λ (own : List Key). keys ++ own)
       (keys_of_view-reached desc deliveries number table parts earlier aligned next)
       ∙ ap (λ (before : List Key). before ++ reached_of desc deliveries number)
-      (rw (← last) at up_to.told)
+      (rw (← end) at up_to.told)
       ∙ sym (reached_of-push desc deliveries number)
       ∙ ap (λ (many : ℕ). flat_map (reached_of desc deliveries) (range_with_len 0 many))
       (omega (arith, length-append lists (parts ∷ [])));

@@ -1,5 +1,5 @@
 -- The sources of a partition stand in earlier tables. So what goes down from a table to earlier
--- ones is the same however many tables it may go down through, if these are enough: `within-enough`.
+-- tables is the same within any depth that is enough: `within-enough`.
 use Rattle.std.proofs.Common.{◌≡◌, ◌∙◌, ℕ, suc, zero, ◌<◌, refl, sym, arith}
 use Rattle.std.specs.Prelude.{Option, Some, None, All, slice_get}
 use Rattle.std.proofs.lemmas.List.Elements.{All-map, All-weaker}
