@@ -7,7 +7,7 @@ use Rattle.depot_io.specs.Puts.{HasRoomFor}
 use Rattle.depot_cli.specs.declared.run.status.Status.{Status}
 use Rattle.depot_cli.specs.declared.run.status.Status.TheVariants as status
 use Rattle.depot_cli.specs.declared.run.status.DescCause.{DescCause}
-use Rattle.depot_cli.specs.Reading.{Script, Unopened, Misdescribed, Served, Session, SessionEnd, Ended, Stopped}
+use Rattle.depot_cli.specs.Reading.{Script, Unopened, Misdescribed, Serving, Session, SessionEnd, Ended, Stopped}
 use Rattle.depot_cli.specs.Replies.{has_refused}
 use Rattle.depot_cli.specs.Runs.{HasCompleteRuns, IsComplete, IsRun, replies_of, session_status, status_of}
 
@@ -28,7 +28,7 @@ replies_of-misdescribed : (script : Script) (line : ℕ) (cause : DescCause)
     → status_of script ≡ status.BadDescription line cause → replies_of script ≡ []
 replies_of-misdescribed (Unopened why place rest) line cause same = refl
 replies_of-misdescribed (Misdescribed bad rest) line cause same = refl
-replies_of-misdescribed (Served desc session) line cause same =
+replies_of-misdescribed (Serving desc session) line cause same =
     absurd (session_status-accepted session session.end line cause same)
 
 -- the sink is not blamed, since it has room or does not fail

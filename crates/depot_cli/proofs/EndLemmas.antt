@@ -14,7 +14,7 @@ use Rattle.depot_cli.specs.declared.script.ScriptFault.TheVariants.{Input, ReadF
 use Rattle.depot_cli.specs.declared.run.status.Status.{Status}
 use Rattle.depot_cli.specs.declared.run.status.Status.TheVariants as status
 use Rattle.depot_cli.specs.declared.script.work.Work.{Work}
-use Rattle.depot_cli.specs.Reading.{Served, Session, Step, Does, session, session_at, session_from, step_of}
+use Rattle.depot_cli.specs.Reading.{Serving, Session, Step, Does, session, session_at, session_from, step_of}
 use Rattle.depot_cli.specs.ScriptCalls.{IsLeftOf, IsReplied, IsReplyRoom, IsStep, status_of_fault}
 use Rattle.depot_cli.specs.SerialJournal.{serial}
 use Rattle.depot_cli.specs.Replies.{replies, reply}
@@ -143,11 +143,11 @@ IsRun-fault : (desc : DescOf) (base turns taken taken_now : ℕ) (bytes : List �
     → length dues ≡ length items
     → Appends got_before got_now (replies desc 1 [] items)
     → IsStep step taken_now left (Err fault)
-    → IsRun (Served desc (after_items items dues (session_at (session_from desc base turns) step)))
+    → IsRun (Serving desc (after_items items dues (session_at (session_from desc base turns) step)))
     got_before got_now left room (status_of_fault fault)
 IsRun-fault desc base turns taken taken_now bytes step items dues got_before got_now left room
     (Input why place) is_step paired replied stops =
-    subst (λ (step : Step). IsRun (Served desc (after_items items dues
+    subst (λ (step : Step). IsRun (Serving desc (after_items items dues
     (session_at (session_from desc base turns) step)))
     got_before got_now left room (status.Input why place))
     (sym stops.1)
@@ -188,7 +188,7 @@ IsRun-unreplied : (desc : DescOf) (more : List Work) (session : Session) (items 
     → IsReplied {T = Unit {0}} got_now got_next
     (reply desc (1 + length items) (serial desc [] items) work) (Err ended)
     → (HasRoomFor room (length (replies desc 1 [] session.items)) → ended ≡ status.WriteFault → ⊥)
-    → IsRun (Served desc session) got_before got_next left room ended
+    → IsRun (Serving desc session) got_before got_next left room ended
 IsRun-unreplied desc more session items work got_before got_now got_next left room
     status.WriteFault splits replied cut fits = record {
       told = tt;
@@ -228,10 +228,10 @@ pub IsRun-stopped : (desc : DescOf) (base : ℕ) (whole : Session)
     left
     → IfSome left (λ bytes.
     IsStep (step_of desc base taken bytes) taken_now left_now (Err fault))
-    → IsRun (Served desc whole) got_before got_now left_now room_before (status_of_fault fault)
+    → IsRun (Serving desc whole) got_before got_now left_now room_before (status_of_fault fault)
 IsRun-stopped desc base whole got_before got_now room_before room_now journal line refused taken
     taken_now left left_now fault served stepped =
-    subst (λ (whole : Session). IsRun (Served desc whole) got_before got_now left_now room_before
+    subst (λ (whole : Session). IsRun (Serving desc whole) got_before got_now left_now room_before
     (status_of_fault fault))
     served.goes_on
     (IsRun-fault desc base served.turns taken taken_now served.rest
@@ -270,7 +270,7 @@ pub IsRun-cut : (desc : DescOf) (base : ℕ) (whole : Session)
     IsStep (step_of desc base taken bytes) taken_now left_now (Ok (Some work)))
     → IsReplied {T = Unit {0}} got_now got_next (reply desc line journal work) (Err ended)
     → IsReplyRoom {T = Unit {0}} room_now room_next (reply desc line journal work) (Err ended)
-    → IsRun (Served desc whole) got_before got_next left_now room_before ended
+    → IsRun (Serving desc whole) got_before got_next left_now room_before ended
 IsRun-cut desc base whole got_before got_now got_next room_before room_now room_next journal line
     refused taken taken_now left left_now work ended served stepped cut unfit =
     let step = IfSome-known left served.rest

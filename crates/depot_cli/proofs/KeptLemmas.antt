@@ -1,6 +1,6 @@
 -- What is kept beside the entries of a journal, as the journal grows: at the start, by a load, by
 -- an install, and after a drain.
-use Rattle.std.proofs.Common.{◌≡◌, ◌∙◌, ℕ, zero, suc, ◌+◌, ◌≤◌, List, [], ◌∷◌, ◌++◌, length, take, refl, sym, ap, map, subst, arith, inl, inr, get_or, ◌<◌, append-nil, append_assoc, length-append}
+use Rattle.std.proofs.Common.{◌≡◌, ◌∙◌, ℕ, zero, suc, ◌+◌, ◌≤◌, List, [], ◌∷◌, ◌++◌, length, take, refl, sym, ap, map, subst, arith, inl, inr, get_or, ◌<◌, append-nil, append_assoc, length-append, take_all}
 use Rattle.std.specs.Prelude.{Bool, true, false, ◌==◌, ◌&&◌, Some, ◌⊎◌, if◌then◌else◌, filter, fold}
 use Rattle.std.specs.List.{list_all}
 use Rattle.std.specs.Ordering.{is_eq, nat_cmp, ordering_then}
@@ -33,7 +33,9 @@ use Rattle.view_meaning.proofs.VersionLemmas.{install_places-append, install_pla
 use Rattle.view_meaning.proofs.LegalLemmas.{IsLegal-push, last_place-le}
 use Rattle.view_meaning.proofs.SettledLemmas.{is_stale-current}
 use Rattle.depot_cli.specs.declared.book.version.Version.{Version}
-use Rattle.depot_cli.specs.KeptJournals.{IsKept, JournalOf, key_cmp, latest, latest_in, number_in, version_made}
+use Rattle.depot_cli.specs.KeptJournals.{DrainsSome}
+use Rattle.table_desc.specs.Keys.{key_cmp}
+use Rattle.depot_cli.specs.KeptJournals.{IsKept, JournalOf, latest, latest_in, number_in, version_made}
 
 -- a test that each element passes
 list_all-each : {X : Type 0} (test : X → Bool) (xs : List X) → ((x : X) → test x ≡ true)
@@ -321,3 +323,13 @@ IsKept-drained desc old new settled earlier kept installed drains entries fresh 
   where
     legal : IsLegal desc (drained desc old.entries)
     legal = IsLegal-drained desc old.entries earlier kept.legal
+
+-- a whole drain makes all of its installs
+pub DrainsSome-drained : (desc : DescOf) (before now : List Entry) → now ≡ drained desc before
+    → DrainsSome desc before now
+DrainsSome-drained desc before now is_drained = record {
+  many = length (unsettled desc before);
+  installed = is_drained
+      ∙ ap (fold with_install before)
+      (sym (take_all (length (unsettled desc before)) (unsettled desc before) (omega arith)));
+}

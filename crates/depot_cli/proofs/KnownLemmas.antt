@@ -1,6 +1,6 @@
 -- What follows of a value that may be there, and of an error that is passed up.
 use Rattle.std.proofs.Common.{◌≡◌, subst, IfSome}
-use Rattle.std.specs.Prelude.{Option, Some, None, Result, Ok, Err, IsErrAnd}
+use Rattle.std.specs.Prelude.{Option, Some, None, Result, Ok, Err, IsErrAnd, OnErr}
 
 -- what is known of the value that may be there is known of the one that is
 pub IfSome-known : {X : Type 0} (value : Option X) (known : X) (P : X → Type 0)
@@ -19,3 +19,8 @@ pub Err-passed : {T E : Type 0} (result : Result T E) (fault : E)
     → IsErrAnd result (λ passed. passed ≡ fault) → result ≡ Err fault
 Err-passed (Ok value) fault is_passed = absurd is_passed
 Err-passed (Err passed) fault is_passed = cc
+
+-- what holds in any case holds of an error
+pub OnErr-each : {T E P : Type 0} (result : Result T E) → P → OnErr result P
+OnErr-each (Ok value) holds = tt
+OnErr-each (Err fault) holds = holds

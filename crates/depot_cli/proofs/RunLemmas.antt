@@ -9,7 +9,7 @@ use Rattle.depot_cli.specs.declared.run.status.Status.TheVariants as status
 use Rattle.depot_cli.specs.declared.run.status.DescCause.TheVariants as cause
 use Rattle.table_desc.specs.Descriptions.{DescOf}
 use Rattle.table_desc.specs.Grammar.{Described, described}
-use Rattle.depot_cli.specs.Reading.{OpeningEnd, Go, Broken, Script, Unopened, Misdescribed, Served, opening, reading, script_at, script_behind, session}
+use Rattle.depot_cli.specs.Reading.{OpeningEnd, Go, Broken, Script, Unopened, Misdescribed, Serving, opening, reading, script_at, script_behind, session}
 use Rattle.depot_cli.specs.ScriptCalls.{IsBeforeGo, IsLeftOf, IsOpening, status_of_fault}
 use Rattle.depot_cli.specs.Runs.{GainsFrontOf, GainsTakenOf, HasCompleteRuns, IsRun}
 use Rattle.depot_cli.proofs.KnownLemmas.{IfSome-each}
@@ -19,7 +19,7 @@ use Rattle.depot_cli.proofs.EndLemmas.{GainsFront-start, GainsTaken-start}
 reading-opened : (input : List ℕ) (before : Described) (taken : ℕ) (rest : List ℕ)
     → before ≡ described (opening input).lines → (opening input).end ≡ Go taken rest
     → before.bad ≡ None
-    → reading input ≡ Served before.desc (session before.desc taken rest)
+    → reading input ≡ Serving before.desc (session before.desc taken rest)
 reading-opened input before taken rest describes ends accepted =
     ap (λ (before : Described). script_at before (opening input).end) (sym describes)
     ∙ ap (λ (end : OpeningEnd). script_at before end) ends
@@ -31,14 +31,14 @@ pub IsRun-opened : (input : List ℕ) (before : Described) (desc : DescOf) (take
     (ended : Status)
     → IsOpening (opening input) taken left (Ok before) → before.bad ≡ None → desc ≡ before.desc
     → IfSome left (λ rest.
-    IsRun (Served desc (session desc taken rest)) got_before got_now left_now room ended)
+    IsRun (Serving desc (session desc taken rest)) got_before got_now left_now room ended)
     → IsRun (reading input) got_before got_now left_now room ended
 IsRun-opened input before desc taken left got_before got_now left_now room ended opened accepted
     same served =
     let P : Option (List ℕ) → Type 0 = λ left. IfSome left (λ rest.
-    IsRun (Served desc (session desc taken rest)) got_before got_now left_now room ended) in
+    IsRun (Serving desc (session desc taken rest)) got_before got_now left_now room ended) in
     subst (λ (script : Script). IsRun script got_before got_now left_now room ended)
-    (ap (λ (desc : DescOf). Served desc (session desc taken opened.0)) same
+    (ap (λ (desc : DescOf). Serving desc (session desc taken opened.0)) same
     ∙ sym (reading-opened input before taken opened.0 opened.1 opened.2 accepted))
     (subst P opened.3 served)
 
@@ -46,7 +46,7 @@ IsRun-opened input before desc taken left got_before got_now left_now room ended
 GainsFrontOf-start : (script : Script) (got : Option (List ℕ)) → GainsFrontOf script got got
 GainsFrontOf-start (Unopened why place rest) got = Appends-nil got
 GainsFrontOf-start (Misdescribed line rest) got = Appends-nil got
-GainsFrontOf-start (Served desc session) got = GainsFront-start desc session got
+GainsFrontOf-start (Serving desc session) got = GainsFront-start desc session got
 
 -- nothing was put, and nothing behind the description was taken
 GainsTakenOf-behind : (before : Described) (base : ℕ) (rest : List ℕ) (bad : Option ℕ)
@@ -137,10 +137,10 @@ IsRun-usage got left left_now room =
 pub IsRun-unserved : (desc : DescOf) (base : ℕ) (got left left_now : Option (List ℕ))
     (room : Option ℕ)
     → IfSome left (λ input.
-    IsRun (Served desc (session desc base input)) got got left_now room status.Memory)
+    IsRun (Serving desc (session desc base input)) got got left_now room status.Memory)
 IsRun-unserved desc base got left left_now room =
     IfSome-each left
-    (λ input. IsRun (Served desc (session desc base input)) got got left_now room status.Memory)
+    (λ input. IsRun (Serving desc (session desc base input)) got got left_now room status.Memory)
     (λ input. record {
       told = tt;
       gains = GainsFront-start desc (session desc base input) got;

@@ -1,11 +1,12 @@
 -- What a run keeps of its journal beside the entries: of each partition of a view that was
 -- installed its latest version with its rows, and which deliveries came since all was settled.
-use Rattle.std.specs.Prelude.{ℕ, zero, suc, ◌≡◌, List, ◌++◌, Option, Some, None, true, length, map, take}
+use Rattle.std.specs.Prelude.{ℕ, zero, suc, ◌≡◌, List, ◌++◌, Option, Some, None, true, length, map, take, fold}
 use Rattle.std.specs.Map.{lookup}
 use Rattle.std.specs.BTreeMap.{is_at}
 use Rattle.std.specs.Ordering.{nat_cmp, ordering_then}
 use Rattle.std.specs.declared.cmp.Ordering.{Ordering}
 use Rattle.table_desc.specs.declared.table.Key.{Key}
+use Rattle.table_desc.specs.Keys.{key_cmp}
 use Rattle.table_desc.specs.Deliveries.{DeliveryOf}
 use Rattle.table_desc.specs.Descriptions.{DescOf}
 use Rattle.view_meaning.specs.declared.journal.Entry.{Entry}
@@ -16,11 +17,10 @@ use Rattle.view_meaning.specs.Values.{value}
 use Rattle.view_meaning.specs.Versions.{install_places, last_place}
 use Rattle.view_meaning.specs.Staleness.{is_settled}
 use Rattle.view_meaning.specs.LegalJournals.{IsLegal}
+use Rattle.view_meaning.specs.Drains.{unsettled, with_install}
 use Rattle.depot_cli.specs.declared.book.version.Version.{Version}
-
--- keys go by their tables, then by their numbers
-abbrev pub key_cmp : Key → Key → Ordering
-key_cmp key other = ordering_then (nat_cmp key.table other.table) (nat_cmp key.part other.part)
+use Rattle.depot_cli.specs.declared.script.work.Work.{Work}
+use Rattle.depot_cli.specs.declared.script.work.Work.TheVariants as work
 
 -- the latest version that is kept of a partition
 abbrev pub latest_in : List (Key × Version) → Key → Option Version
@@ -62,3 +62,14 @@ pub record IsKept (desc : DescOf) (journal : JournalOf) : Type 0 where
   pub legal : IsLegal desc journal.entries
   pub fresh : AreFresh desc journal
   pub latest : (key : Key) → latest_in journal.versions key ≡ latest desc journal.entries key
+
+-- a drain that found no memory made the first so many of its installs, in order of key
+pub record DrainsSome (desc : DescOf) (before now : List Entry) : Type 0 where
+  pub many : ℕ
+  pub installed : now ≡ fold with_install before (take many (unsettled desc before))
+
+-- what a command for which there was no memory left of the journal: a drain may have made some of
+-- its installs, and each other one changed nothing
+abbrev pub IsCutShort : DescOf → (before now : JournalOf) → Work → Type 0
+IsCutShort desc before now work.Drain = DrainsSome desc before.entries now.entries
+IsCutShort desc before now _ = now ≡ before

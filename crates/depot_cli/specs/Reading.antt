@@ -178,11 +178,11 @@ session desc base input = session_from desc base (suc (length input)) 0 input
 pub data Script : Type 0 where
   Unopened : InputEnd → (place : ℕ) → (rest : List ℕ) → Script
   Misdescribed : (line : ℕ) → (rest : List ℕ) → Script
-  Served : DescOf → Session → Script
+  Serving : DescOf → Session → Script
 
 -- the script behind a description, at its `go` line
 abbrev pub script_behind : Described → (base : ℕ) → List ℕ → Option ℕ → Script
-script_behind before base rest None = Served before.desc (session before.desc base rest)
+script_behind before base rest None = Serving before.desc (session before.desc base rest)
 script_behind before base rest (Some line) = Misdescribed line rest
 
 -- the script that an opening begins

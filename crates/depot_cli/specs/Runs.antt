@@ -1,16 +1,16 @@
 -- What a run answers, writes and leaves, by the reading of its input.
-use Rattle.std.specs.Prelude.{ℕ, ◌≡◌, ◌≤◌, ◌+◌, List, [], ◌∷◌, ◌++◌, Bool, true, false, ⊤, if◌then◌else◌, ◌||◌, ◌⊎◌, nat_le, length, take, drop, All, codes, Some}
+use Rattle.std.specs.Prelude.{ℕ, ◌≡◌, ◌≤◌, ◌+◌, List, [], ◌∷◌, ◌++◌, Bool, true, false, ⊤, if◌then◌else◌, ◌||◌, ◌⊎◌, nat_le, length, take, drop, All, codes, Some, None}
 use Rattle.std.specs.declared.option.Option.{Option}
 use Rattle.std.specs.Io.KnownBytes.{Appends}
 use Rattle.depot_io.specs.Causes.{Rose}
-use Rattle.depot_io.specs.Puts.{HasRoomFor}
+use Rattle.depot_io.specs.Puts.{GainsPrefix, HasRoomFor}
 use Rattle.std.specs.Str.{bytes_eq}
 use Rattle.depot_cli.specs.declared.run.status.Status.{Status}
 use Rattle.depot_cli.specs.declared.run.status.Status.TheVariants as status
 use Rattle.depot_cli.specs.declared.run.status.DescCause.TheVariants as cause
 use Rattle.depot_cli.specs.declared.run.status.InputEnd.{InputEnd}
 use Rattle.depot_cli.specs.declared.run.status.InputEnd.TheVariants as why
-use Rattle.depot_cli.specs.Reading.{Script, Unopened, Misdescribed, Served, Session, SessionEnd, Ended, Stopped}
+use Rattle.depot_cli.specs.Reading.{Script, Unopened, Misdescribed, Serving, Session, SessionEnd, Ended, Stopped}
 use Rattle.table_desc.specs.Descriptions.{DescOf}
 use Rattle.depot_cli.specs.ScriptCalls.{IsLeftOf}
 use Rattle.depot_cli.specs.SerialJournal.{serial}
@@ -21,10 +21,11 @@ abbrev pub is_trial : List (List ℕ) → Bool
 is_trial (word ∷ []) = bytes_eq word (codes "trial")
 is_trial _ = false
 
--- whether a word in place of the folder asks for a text
-abbrev pub asks_text : List ℕ → Bool
-asks_text word = bytes_eq word (codes "--help") || bytes_eq word (codes "-h")
-    || bytes_eq word (codes "--version")
+-- the text that a word in place of the folder asks for
+abbrev pub text_asked : (help version word : List ℕ) → Option (List ℕ)
+text_asked help version word =
+    if bytes_eq word (codes "--help") || bytes_eq word (codes "-h") then Some help
+    else if bytes_eq word (codes "--version") then Some version else None
 
 -- the status of a session that ended so
 abbrev pub session_status : Session → SessionEnd → Status
@@ -35,7 +36,7 @@ session_status session (Stopped why place _) = status.Input why place
 abbrev pub status_of : Script → Status
 status_of (Unopened why place _) = status.Input why place
 status_of (Misdescribed line _) = status.BadDescription line cause.Later
-status_of (Served desc session) = session_status session session.end
+status_of (Serving desc session) = session_status session session.end
 
 -- a status is the reading's, but for those of the devices and of memory, and of the command line
 abbrev pub IsStatusOf : Script → Status → Type 0
@@ -75,7 +76,7 @@ is_read status.Memory = false
 abbrev pub replies_of : Script → List ℕ
 replies_of (Unopened _ _ _) = []
 replies_of (Misdescribed _ _) = []
-replies_of (Served desc session) = replies desc 1 [] session.items
+replies_of (Serving desc session) = replies desc 1 [] session.items
 
 -- what the end of a session leaves of its input
 abbrev pub left_behind : SessionEnd → List ℕ
@@ -87,7 +88,7 @@ left_behind (Stopped _ _ rest) = rest
 abbrev pub left_of : Script → List ℕ
 left_of (Unopened _ _ rest) = rest
 left_of (Misdescribed _ rest) = rest
-left_of (Served desc session) = left_behind session.end
+left_of (Serving desc session) = left_behind session.end
 
 -- the reply to the item of a session with this number, from 0; and nothing where there is none
 abbrev pub reply_at : DescOf → Session → (number : ℕ) → List ℕ
@@ -120,13 +121,13 @@ pub record GainsTaken (desc : DescOf) (session : Session)
 abbrev pub GainsFrontOf : Script → (got_before got_now : Option (List ℕ)) → Type 0
 GainsFrontOf (Unopened _ _ _) got_before got_now = Appends got_before got_now []
 GainsFrontOf (Misdescribed _ _) got_before got_now = Appends got_before got_now []
-GainsFrontOf (Served desc session) got_before got_now = GainsFront desc session got_before got_now
+GainsFrontOf (Serving desc session) got_before got_now = GainsFront desc session got_before got_now
 
 -- what a run that was ended by the source has gained
 abbrev pub GainsTakenOf : Script → (got_before got_now left_now : Option (List ℕ)) → Type 0
 GainsTakenOf (Unopened _ _ _) got_before got_now left_now = Appends got_before got_now []
 GainsTakenOf (Misdescribed _ _) got_before got_now left_now = Appends got_before got_now []
-GainsTakenOf (Served desc session) got_before got_now left_now =
+GainsTakenOf (Serving desc session) got_before got_now left_now =
     GainsTaken desc session got_before got_now left_now
 
 -- what a run has put into the sink, by how it ended: the replies to all items, where it came to the
@@ -167,6 +168,12 @@ pub record HasRunCauses (reads_before reads_now writes_before writes_now : ℕ)
     (ended : Status) : Type 0 where
   pub read : IsReadCause reads_before reads_now ended
   pub write : IsWriteCause writes_before writes_now ended
+
+-- what the sink has gained of a text that was printed
+abbrev pub IsPrinted : (got_before got_now : Option (List ℕ)) → (text : List ℕ) → Status → Type 0
+IsPrinted got_before got_now text status.Done = Appends got_before got_now text
+IsPrinted got_before got_now text status.WriteFault = GainsPrefix got_before got_now text
+IsPrinted got_before got_now text _ = ⊥
 
 -- whether an input ended before its `go` line
 abbrev pub lacks_go : InputEnd → Bool

@@ -10,6 +10,9 @@ use Rattle.depot_cli.specs.declared.run.status.Status.TheVariants as status
 use Rattle.depot_cli.specs.declared.script.work.Work.{Work}
 use Rattle.depot_cli.specs.declared.script.work.Work.TheVariants as work
 use Rattle.table_desc.specs.Time.{END}
+use Rattle.table_desc.specs.Descriptions.{DescOf}
+use Rattle.depot_cli.specs.SerialJournal.{journal_after}
+use Rattle.depot_cli.specs.KeptJournals.{IsCutShort, JournalOf}
 use Rattle.table_desc.specs.Grammar.{Described, described}
 use Rattle.depot_cli.specs.Reading.{NextLine, NoLine, Unreadable, Line, NextBody, Unfinished, Body, Opening, OpeningEnd, Go, Broken, Step, Ends, Does, Ended, Stopped}
 
@@ -148,3 +151,10 @@ abbrev pub IsOpened : Opening → (left : Option (List ℕ))
     → Result (Described × ℕ) ScriptFault → Type 0
 IsOpened opening left (Ok (before, taken)) = IsOpening opening taken left (Ok before)
 IsOpened opening left (Err fault) = IsOpening opening 0 left (Err fault)
+
+-- what an item that was not replied to left of the journal: it was done, if the sink failed
+abbrev pub IsItemCut : DescOf → (before now : JournalOf) → Work → Status → Type 0
+IsItemCut desc before now work status.WriteFault =
+    now.entries ≡ journal_after desc before.entries work
+IsItemCut desc before now work status.Memory = IsCutShort desc before now work
+IsItemCut desc before now work _ = ⊥

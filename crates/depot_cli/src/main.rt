@@ -11,32 +11,39 @@ mod script;
 #[cfg(test)]
 mod tests;
 
-use crate::run::help::text_asked;
+use crate::run::help::{print, text_asked};
 pub use crate::run::laws::{runs_are_complete, serial_is_legal};
 pub use crate::run::run;
 pub use crate::run::status::{DescCause, InputEnd, Status};
-use depot_io::{StdSink, StdSource, put_all};
+use depot_io::{StdSink, StdSource};
 use std::env;
+use std::io::ErrorKind;
 use std::process::ExitCode;
 
-/// Prints the text that the first word asks for, or runs the words behind the folder, which is not
-/// looked at yet. Where the words cannot be read, they are no command.
+/// Prints the text that the first word asks for, or runs the words after the folder, which is not
+/// looked at yet.
 fn main(rt: HostRuntime) -> ExitCode {
     let status = match words_of(&rt) {
-        Some(words) => answer(&rt, &words),
-        None => Status::Usage,
+        Ok(words) => answer(&rt, &words),
+        Err(status) => status,
     };
-    if status.code() >= 2 {
+    if status.is_told() {
         let _ = eprintln!(rt; "{status}");
     }
     ExitCode::from(status.code())
 }
 
-/// The words behind the program's name.
-fn words_of(rt: &HostRuntime) -> Option<Vec<String>> {
+/// The words after the program's name. Words that are no text are no command.
+fn words_of(rt: &HostRuntime) -> Result<Vec<String>, Status> {
     match env::args(rt) {
-        Ok(args) => args.skip(1).collect(rt.alloc()).ok(),
-        Err(_) => None,
+        Ok(args) => match args.skip(1).collect(rt.alloc()) {
+            Ok(words) => Ok(words),
+            Err(_) => Err(Status::Memory),
+        },
+        Err(error) => match error.kind() {
+            ErrorKind::OutOfMemory => Err(Status::Memory),
+            _ => Err(Status::Usage),
+        },
     }
 }
 
@@ -44,7 +51,7 @@ fn words_of(rt: &HostRuntime) -> Option<Vec<String>> {
 fn answer(rt: &HostRuntime, words: &[String]) -> Status {
     match words {
         [first, others @ ..] => match text_asked(first) {
-            Some(text) => print(rt, text),
+            Some(text) => print(&mut StdSink::new(rt), text),
             None => run(
                 rt.alloc(),
                 others,
@@ -53,13 +60,5 @@ fn answer(rt: &HostRuntime, words: &[String]) -> Status {
             ),
         },
         [] => Status::Usage,
-    }
-}
-
-/// Prints a text to standard output.
-fn print(rt: &HostRuntime, text: &[u8]) -> Status {
-    match put_all(&mut StdSink::new(rt), text) {
-        Ok(()) => Status::Done,
-        Err(_) => Status::WriteFault,
     }
 }

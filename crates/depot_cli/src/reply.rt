@@ -3,7 +3,7 @@
 pub mod rows_text;
 pub mod texts;
 
-ghost use Rattle.std.specs.Prelude.{◌≡◌, ◌+◌, ◌<◌, ◌≤◌, ◌^◌, ◌++◌, true, false, length, map, flat_map, IfOk, OnOk, slice_get, option_copied, Some};
+ghost use Rattle.std.specs.Prelude.{◌≡◌, ◌+◌, ◌<◌, ◌≤◌, ◌^◌, ◌++◌, true, false, length, map, flat_map, IfOk, OnErr, OnOk, slice_get, option_copied, Some};
 ghost use Rattle.table_desc.specs.Time.{END};
 ghost use Rattle.view_meaning.specs.Shown.{shown, shown_part};
 ghost use Rattle.view_meaning.specs.Versions.{is_raw_kind};
@@ -12,8 +12,7 @@ ghost use Rattle.std.specs.List.{range_with_len};
 ghost use Rattle.table_desc.specs.Kinds.{kind_of};
 ghost use Rattle.depot_cli.specs.declared.script.work.Work.TheVariants as work;
 ghost use Rattle.depot_cli.specs.ScriptCalls.{IsAnswerable};
-ghost use Rattle.table_desc.specs.Served.{IsServed};
-ghost use Rattle.depot_cli.specs.KeptJournals.{IsKept};
+ghost use Rattle.depot_cli.specs.KeptJournals.{DrainsSome, IsCutShort, IsKept};
 ghost use Rattle.depot_cli.specs.SerialJournal.{journal_after};
 ghost use Rattle.depot_cli.specs.Texts.{answer_text, drained_text, feed_name, shown_text, table_name};
 ghost use Rattle.depot_cli.specs.Replies.{load_reply, reply};
@@ -27,51 +26,53 @@ use crate::reply::texts::{
 use crate::script::work::Work;
 use depot_cell::{Memory, Rows};
 use std::alloc::Global;
-use table_desc::{Delivery, Desc, Key, Kind, Table};
+use table_desc::{Delivery, Key, Kind, Served, Table};
 use view_meaning::{Item, Loaded, Mark, Parts, PinItem, parts_of_span, plain_value, plain_version};
 
 /// Does what an item asks for, and makes the text of the reply. `line` is the item's line, from 1.
-/// Where there is no memory, a drain may have done a part of its work.
+/// Without memory a drain may have made some of its installs, and nothing else has changed.
 pub fn answer(
     alloc: Global,
-    desc: &Desc,
+    served: &Served,
     line: u64,
     journal: &mut Journal,
     work: Work,
 ) -> Result<Vec<u8>, Memory>
-    requires served { IsServed desc.now }
-    requires kept { IsKept desc.now journal.old }
+    requires kept { IsKept served.now.desc journal.old }
     requires in_range { IsAnswerable work }
     ensures exact { IfOk result (λ text.
-        text.items ≡ reply desc.now line journal.old.entries work) }
+        text.items ≡ reply served.now.desc line journal.old.entries work) }
     ensures ok { OnOk result
-        (journal.new.entries ≡ journal_after desc.now journal.old.entries work) }
-    ensures kept { OnOk result (IsKept desc.now journal.new) }
+        (journal.new.entries ≡ journal_after served.now.desc journal.old.entries work) }
+    ensures kept { OnOk result (IsKept served.now.desc journal.new) }
+    ensures err { OnErr result
+        (IsCutShort served.now.desc journal.old journal.new work) }
 {
     match work {
         Work::Nothing => Ok(Vec::new(alloc)),
         Work::Refused => refused_text(alloc, line),
-        Work::Load(delivery) => load(alloc, desc, journal, delivery),
-        Work::Drain => drain_text(alloc, desc, journal),
-        Work::Query(item) => query_text(alloc, desc, journal, item),
+        Work::Load(delivery) => load(alloc, served, journal, delivery),
+        Work::Drain => drain_text(alloc, served, journal),
+        Work::Query(item) => query_text(alloc, served, journal, item),
     }
 }
 
 /// Loads a delivery, unless its number was accepted before.
 fn load(
     alloc: Global,
-    desc: &Desc,
+    served: &Served,
     journal: &mut Journal,
     delivery: Delivery,
 ) -> Result<Vec<u8>, Memory>
-    requires kept { IsKept desc.now journal.old }
+    requires kept { IsKept served.now.desc journal.old }
     ensures exact { IfOk result (λ text.
-        text.items ≡ load_reply desc.now journal.old.entries delivery) }
+        text.items ≡ load_reply served.now.desc journal.old.entries delivery) }
     ensures ok { OnOk result (journal.new.entries
-        ≡ journal_after desc.now journal.old.entries (work.Load delivery)) }
-    ensures kept { OnOk result (IsKept desc.now journal.new) }
+        ≡ journal_after served.now.desc journal.old.entries (work.Load delivery)) }
+    ensures kept { OnOk result (IsKept served.now.desc journal.new) }
+    ensures err { OnErr result (journal.new ≡ journal.old) }
 {
-    let feed = feed_name(desc, delivery.feed);
+    let feed = feed_name(served, delivery.feed);
     if journal.has(&delivery) {
         return repeat_text(alloc, feed, delivery.number);
     }
@@ -86,70 +87,76 @@ fn load(
 }
 
 /// Computes all that is not settled, and tells the place.
-fn drain_text(alloc: Global, desc: &Desc, journal: &mut Journal) -> Result<Vec<u8>, Memory>
-    requires served { IsServed desc.now }
-    requires kept { IsKept desc.now journal.old }
+fn drain_text(alloc: Global, served: &Served, journal: &mut Journal) -> Result<Vec<u8>, Memory>
+    requires kept { IsKept served.now.desc journal.old }
     ensures exact { IfOk result (λ text.
-        text.items ≡ drained_text (length (drained desc.now journal.old.entries))) }
-    ensures ok { OnOk result (journal.new.entries ≡ drained desc.now journal.old.entries) }
-    ensures kept { OnOk result (IsKept desc.now journal.new) }
+        text.items ≡ drained_text (length (drained served.now.desc journal.old.entries))) }
+    ensures ok { OnOk result (journal.new.entries ≡ drained served.now.desc journal.old.entries) }
+    ensures kept { OnOk result (IsKept served.now.desc journal.new) }
+    ensures err { OnErr result
+        (DrainsSome served.now.desc journal.old.entries journal.new.entries) }
 {
-    drain(alloc, desc, journal)?;
+    drain(alloc, served, journal)?;
     drained_text(alloc, journal.len())
 }
 
 /// The name of a feed.
-fn feed_name(desc: &Desc, feed: u16) -> &[u8]
-    ensures { result.now ≡ feed_name desc.now feed }
+fn feed_name(served: &Served, feed: u16) -> &[u8]
+    ensures { result.now ≡ feed_name served.now.desc feed }
 {
-    match desc.feeds.get(feed as usize) {
+    match served.desc.feeds.get(feed as usize) {
         Some(feed) => feed.name.as_bytes(),
         None => &[],
     }
 }
 
 /// The answer to a query: the partitions of its table that it asks for, each with its rows.
-fn query_text(alloc: Global, desc: &Desc, journal: &Journal, item: Item) -> Result<Vec<u8>, Memory>
-    requires kept { IsKept desc.now journal.now }
+fn query_text(
+    alloc: Global,
+    served: &Served,
+    journal: &Journal,
+    item: Item,
+) -> Result<Vec<u8>, Memory>
+    requires kept { IsKept served.now.desc journal.now }
     requires in_order { item.from ≤ item.to }
     requires in_time { item.to ≤ END }
     ensures exact { IfOk result (λ text. text.items
-        ≡ answer_text (table_name desc.now item.table) (length journal.now.entries)
-        (shown desc.now journal.now.entries item)) }
+        ≡ answer_text (table_name served.now.desc item.table) (length journal.now.entries)
+        (shown served.now.desc journal.now.entries item)) }
 {
-    let table = match table_at(desc, item.table) {
+    let table = match table_at(served, item.table) {
         Some(table) => table,
         None => return answer_line(alloc, journal.len(), 0),
     };
     let parts = parts_of_span(table.width, item.from, item.to);
     let mut text = answer_line(alloc, journal.len(), parts.count)?;
-    put_parts(alloc, desc, journal, table, item.table, parts, &mut text)?;
+    put_parts(alloc, served, journal, table, item.table, parts, &mut text)?;
     Ok(text)
 }
 
 /// The table with this number.
-fn table_at(desc: &Desc, number: u16) -> Option<&Table>
-    ensures { option_copied result ≡ slice_get desc.now.tables number }
+fn table_at(served: &Served, number: u16) -> Option<&Table>
+    ensures { option_copied result ≡ slice_get served.now.desc.tables number }
 {
-    desc.tables.get(number as usize)
+    served.desc.tables.get(number as usize)
 }
 
 /// Puts a run of partitions of a table behind a text.
 fn put_parts(
     alloc: Global,
-    desc: &Desc,
+    served: &Served,
     journal: &Journal,
     table: &Table,
     number: u16,
     parts: Parts,
     text: &mut Vec<u8>,
 ) -> Result<(), Memory>
-    requires kept { IsKept desc.now journal.now }
-    requires there { slice_get desc.now.tables number ≡ Some table.now }
+    requires kept { IsKept served.now.desc journal.now }
+    requires there { slice_get served.now.desc.tables number ≡ Some table.now }
     requires in_time { parts.first + parts.count < 2 ^ 64 }
     ensures ok { OnOk result (text.new.items ≡ text.old.items
         ++ flat_map (shown_text table.now.name) (map
-        (λ part. shown_part desc.now journal.now.entries (record { table = number; part = part }))
+        (λ part. shown_part served.now.desc journal.now.entries (record { table = number; part = part }))
         (range_with_len parts.first parts.count))) }
 {
     'parts: for part in parts.first..parts.first + parts.count {
@@ -157,7 +164,7 @@ fn put_parts(
             table: number,
             part,
         };
-        let shown = shown_text(alloc, desc, journal, table, key)?;
+        let shown = shown_text(alloc, served, journal, table, key)?;
         match text.extend_from_slice(&shown) {
             Ok(()) => {}
             Err(_) => return Err(Memory),
@@ -169,40 +176,40 @@ fn put_parts(
 /// One partition of an answer: its line, and its rows.
 fn shown_text(
     alloc: Global,
-    desc: &Desc,
+    served: &Served,
     journal: &Journal,
     table: &Table,
     key: Key,
 ) -> Result<Vec<u8>, Memory>
-    requires kept { IsKept desc.now journal.now }
-    requires there { slice_get desc.now.tables key.table ≡ Some table.now }
+    requires kept { IsKept served.now.desc journal.now }
+    requires there { slice_get served.now.desc.tables key.table ≡ Some table.now }
     ensures exact { IfOk result (λ text. text.items
-        ≡ shown_text table.now.name (shown_part desc.now journal.now.entries key)) }
+        ≡ shown_text table.now.name (shown_part served.now.desc journal.now.entries key)) }
 {
     if is_raw(&table.kind) {
-        raw_text(alloc, desc, journal, table, key)
+        raw_text(alloc, served, journal, table, key)
     } else {
-        view_text(alloc, desc, journal, table, key)
+        view_text(alloc, served, journal, table, key)
     }
 }
 
 /// One partition of a raw table: its rows are those of all deliveries.
 fn raw_text(
     alloc: Global,
-    desc: &Desc,
+    served: &Served,
     journal: &Journal,
     table: &Table,
     key: Key,
 ) -> Result<Vec<u8>, Memory>
-    requires there { slice_get desc.now.tables key.table ≡ Some table.now }
+    requires there { slice_get served.now.desc.tables key.table ≡ Some table.now }
     requires raw { is_raw_kind table.now.kind ≡ true }
     ensures exact { IfOk result (λ text. text.items
-        ≡ shown_text table.now.name (shown_part desc.now journal.now.entries key)) }
+        ≡ shown_text table.now.name (shown_part served.now.desc journal.now.entries key)) }
 {
-    let rows = plain_value(alloc, desc, journal.accepted(), key)?;
+    let rows = plain_value(alloc, &served.desc, journal.accepted(), key)?;
     let item = PinItem {
         key,
-        version: plain_version(desc, journal.accepted(), key),
+        version: plain_version(&served.desc, journal.accepted(), key),
         upto: journal.len(),
         mark: Mark::Open,
     };
@@ -212,16 +219,16 @@ fn raw_text(
 /// One partition of a view: its rows are those of its latest version.
 fn view_text(
     alloc: Global,
-    desc: &Desc,
+    served: &Served,
     journal: &Journal,
     table: &Table,
     key: Key,
 ) -> Result<Vec<u8>, Memory>
-    requires kept { IsKept desc.now journal.now }
-    requires there { slice_get desc.now.tables key.table ≡ Some table.now }
+    requires kept { IsKept served.now.desc journal.now }
+    requires there { slice_get served.now.desc.tables key.table ≡ Some table.now }
     requires view { is_raw_kind table.now.kind ≡ false }
     ensures exact { IfOk result (λ text. text.items
-        ≡ shown_text table.now.name (shown_part desc.now journal.now.entries key)) }
+        ≡ shown_text table.now.name (shown_part served.now.desc journal.now.entries key)) }
 {
     match journal.latest(key) {
         Some(version) => {

@@ -9,8 +9,7 @@ ghost use Rattle.std.specs.Prelude.{◌≡◌, ◌↔◌, ◌≤◌, IfSome, IfO
 ghost use Rattle.std.specs.Io.KnownBytes.{Keeps};
 ghost use Rattle.depot_io.specs.Causes.{Rose};
 ghost use Rattle.depot_io.specs.Lines.{LIMIT};
-ghost use Rattle.table_desc.specs.Served.{IsServed};
-ghost use Rattle.depot_cli.specs.Reading.{Served, opening, reading, session};
+ghost use Rattle.depot_cli.specs.Reading.{Serving, opening, reading, session};
 ghost use Rattle.depot_cli.specs.ScriptCalls.{IsOpened, IsScriptCause};
 ghost use Rattle.depot_cli.specs.Runs.{EndsSession, HasRunCauses, IsRun, is_trial, is_unserved};
 
@@ -19,7 +18,7 @@ use crate::run::status::{DescCause, Status};
 use crate::script::{ScriptFault, read_opening};
 use depot_io::{LineReader, Sink, Source};
 use std::alloc::Global;
-use table_desc::{Desc, Draft};
+use table_desc::{Draft, Served};
 
 /// Runs a command: `words` are those behind the folder. The one command is `trial`. It reads a
 /// description up to its `go` line and then session lines off the source, and puts the replies
@@ -83,8 +82,7 @@ fn trial<S: Source, O: Sink>(alloc: Global, source: &mut S, sink: &mut O) -> Sta
         }
         None => {}
     }
-    let desc = draft.into_desc();
-    serve_source(alloc, &desc, base, source, sink)
+    serve_source(alloc, &draft.into_served(), base, source, sink)
 }
 
 /// Takes a description off a source, up to its `go` line, and says how many bytes that took.
@@ -115,15 +113,14 @@ fn open<S: Source>(alloc: Global, source: &mut S) -> Result<(Draft, u64), Script
 /// Serves the session lines that a source has left. `base` is the place at which they begin.
 fn serve_source<S: Source, O: Sink>(
     alloc: Global,
-    desc: &Desc,
+    served: &Served,
     base: u64,
     source: &mut S,
     sink: &mut O,
 ) -> Status
-    requires served { IsServed desc.now }
     requires in_input { base ≤ LIMIT }
     ensures run { IfSome (S.bytes_left source.old) (λ input.
-        IsRun (Served desc.now (session desc.now base input)) (O.bytes_got sink.old)
+        IsRun (Serving served.now.desc (session served.now.desc base input)) (O.bytes_got sink.old)
         (O.bytes_got sink.new) (S.bytes_left source.new) (O.room sink.old) result) }
     ensures causes { HasRunCauses (S.faults source.old) (S.faults source.new)
         (O.faults sink.old) (O.faults sink.new) result }
@@ -137,7 +134,7 @@ fn serve_source<S: Source, O: Sink>(
             return Status::Memory;
         }
     };
-    let status = serve(alloc, desc, base, &mut reader, sink);
+    let status = serve(alloc, served, base, &mut reader, sink);
     let lent = reader.into_source();
     let _ = lent;
     status

@@ -7,7 +7,6 @@ ghost use Rattle.std.specs.Prelude.{◌≡◌, ◌+◌, ◌≤◌, ◌<◌, leng
 ghost use Rattle.depot_io.specs.Lines.{LIMIT, line_take};
 ghost use Rattle.depot_io.specs.Reading.{ReadsOn};
 ghost use Rattle.table_desc.specs.Words.{words};
-ghost use Rattle.table_desc.specs.Served.{IsServed};
 ghost use Rattle.table_desc.specs.Grammar.{is_go};
 ghost use Rattle.depot_cli.specs.Orders.{BODY_LIMIT};
 ghost use Rattle.depot_cli.specs.Reading.{line_due, next_line, next_body, body_work as work_of_body, step_of, opening};
@@ -21,7 +20,7 @@ use depot_cell::Memory;
 use depot_io::{Line, LineFault, LineReader, Source};
 use feed_csv::read_rows;
 use std::alloc::Global;
-use table_desc::{Delivery, Desc, Draft, is_go, words_of};
+use table_desc::{Delivery, Draft, Served, is_go, words_of};
 
 /// Why a script was not read on.
 #[derive(Clone, Copy, Debug, PartialEq, Eq, Drop)]
@@ -111,14 +110,19 @@ fn take_body<S: Source>(
 }
 
 /// What a body asks for: it is refused with its line.
-fn body_work(alloc: Global, desc: &Desc, head: Option<Head>, body: &[u8]) -> Result<Work, Memory>
+fn body_work(
+    alloc: Global,
+    served: &Served,
+    head: Option<Head>,
+    body: &[u8],
+) -> Result<Work, Memory>
     requires { length body.now ≤ BODY_LIMIT }
-    ensures exact { IfOk result (λ work. work ≡ work_of_body desc.now head body.now) }
+    ensures exact { IfOk result (λ work. work ≡ work_of_body served.now.desc head body.now) }
 {
     let Some(head) = head else {
         return Ok(Work::Refused);
     };
-    match read_rows(alloc, desc, head.feed, body)? {
+    match read_rows(alloc, served, head.feed, body)? {
         Some(rows) => Ok(Work::Load(Delivery {
             feed: head.feed,
             number: head.number,
@@ -133,16 +137,15 @@ fn body_work(alloc: Global, desc: &Desc, head: Option<Head>, body: &[u8]) -> Res
 /// of the input or at the word `end`. `body` is room that is used again.
 pub fn next_work<S: Source>(
     alloc: Global,
-    desc: &Desc,
+    served: &Served,
     base: u64,
     reader: &mut LineReader<S>,
     body: &mut Vec<u8>,
 ) -> Result<Option<Work>, ScriptFault>
-    requires served { IsServed desc.now }
     requires in_input { base ≤ LIMIT }
     requires not_long { reader.old.taken ≤ LIMIT }
     ensures answer { IfSome (S.bytes_left reader.old.source) (λ bytes.
-        IsStep (step_of desc.now base reader.old.taken bytes) reader.new.taken
+        IsStep (step_of served.now.desc base reader.old.taken bytes) reader.new.taken
         (S.bytes_left reader.new.source) result) }
     ensures in_range { IfOk result (λ work. IfSome work IsAnswerable) }
     ensures more { IfOk result (λ work. OnSome work (reader.old.taken < reader.new.taken)) }
@@ -153,7 +156,7 @@ pub fn next_work<S: Source>(
     if !take_line(base, reader)? {
         return Ok(None);
     }
-    match read_order(alloc, desc, reader.line())? {
+    match read_order(alloc, served, reader.line())? {
         Order::Nothing => Ok(Some(Work::Nothing)),
         Order::Refused => Ok(Some(Work::Refused)),
         Order::Drain => Ok(Some(Work::Drain)),
@@ -165,7 +168,7 @@ pub fn next_work<S: Source>(
         }),
         Order::Body { head, size } => {
             take_body(base, size, reader, body)?;
-            Ok(Some(body_work(alloc, desc, head, body)?))
+            Ok(Some(body_work(alloc, served, head, body)?))
         }
     }
 }

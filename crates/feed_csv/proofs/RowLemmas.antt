@@ -66,6 +66,7 @@ IsRowOf-table_cells feed table fields cells raw read =
     subst (λ (cells : List Cell). IsRowOf feed cells table) made.1 (record {
       of_feed = IsRawOf-raw_of feed table.kind raw;
       typed = fit.typed;
+      cells = fit.fit;
       in_time = IsSomeAnd-in_time _ made.0;
     }))
 

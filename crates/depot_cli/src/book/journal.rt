@@ -11,7 +11,8 @@ ghost use Rattle.table_desc.specs.declared.table.Key.{Key as KeyOf};
 ghost use Rattle.view_meaning.specs.declared.journal.Entry.TheVariants as entry;
 ghost use Rattle.view_meaning.specs.Journal.{accepted, is_repeat, is_same};
 ghost use Rattle.view_meaning.specs.Drains.{with_install};
-ghost use Rattle.depot_cli.specs.KeptJournals.{key_cmp, latest_in, number_in};
+ghost use Rattle.table_desc.specs.Keys.{key_cmp};
+ghost use Rattle.depot_cli.specs.KeptJournals.{latest_in, number_in};
 
 use crate::book::step::Step;
 use crate::book::version::Version;

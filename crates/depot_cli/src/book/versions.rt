@@ -3,7 +3,8 @@
 ghost use Rattle.std.specs.Prelude.{Some, ◌≡◌, [], OnErr, OnOk, option_copied, if◌then◌else◌};
 ghost use Rattle.std.specs.Ordering.{is_eq};
 ghost use Rattle.table_desc.specs.declared.table.Key.{Key as KeyOf};
-ghost use Rattle.depot_cli.specs.KeptJournals.{key_cmp, latest_in};
+ghost use Rattle.table_desc.specs.Keys.{key_cmp};
+ghost use Rattle.depot_cli.specs.KeptJournals.{latest_in};
 
 use crate::book::version::Version;
 use depot_cell::Memory;

@@ -1,8 +1,10 @@
 //! The texts that the program prints in place of a run.
 
-ghost use Rattle.std.specs.Prelude.{◌≡◌, is_some};
-ghost use Rattle.depot_cli.specs.Runs.{asks_text};
+ghost use Rattle.std.specs.Prelude.{◌≡◌, option_map};
+ghost use Rattle.depot_cli.specs.Runs.{IsPrinted, IsWriteCause, text_asked};
 
+use crate::run::status::Status;
+use depot_io::{Sink, put_all};
 use table_desc::is_word;
 
 const HELP: &[u8] = b"\
@@ -35,10 +37,10 @@ Exit codes:
 
 const VERSION: &[u8] = b"depot_cli 0.1.0\n";
 
-/// The text that a word asks for where it stands in place of the folder: `--help`, `-h` or
-/// `--version`.
+/// The text that a word asks for in place of the folder: `--help`, `-h` or `--version`.
 pub fn text_asked(word: &str) -> Option<&'static [u8]>
-    ensures asked { is_some result ≡ asks_text word.now }
+    ensures exact { option_map (λ text. text.now) result
+        ≡ text_asked HELP.now VERSION.now word.now }
 {
     if is_word(word.as_bytes(), b"--help") || is_word(word.as_bytes(), b"-h") {
         Some(HELP)
@@ -46,5 +48,16 @@ pub fn text_asked(word: &str) -> Option<&'static [u8]>
         Some(VERSION)
     } else {
         None
+    }
+}
+
+/// Prints a text. If the sink fails it has got a front of it.
+pub fn print<O: Sink>(sink: &mut O, text: &[u8]) -> Status
+    ensures gained { IsPrinted (O.bytes_got sink.old) (O.bytes_got sink.new) text.now result }
+    ensures cause { IsWriteCause (O.faults sink.old) (O.faults sink.new) result }
+{
+    match put_all(sink, text) {
+        Ok(()) => Status::Done,
+        Err(_) => Status::WriteFault,
     }
 }

@@ -1,11 +1,10 @@
 //! A session: each item is read, done and replied to before the next one is read.
 
-ghost use Rattle.std.specs.Prelude.{◌≡◌, ◌≤◌, [], IfSome, OnOk, if◌then◌else◌};
+ghost use Rattle.std.specs.Prelude.{◌≡◌, ◌≤◌, [], IfErr, IfSome, OnOk, if◌then◌else◌};
 ghost use Rattle.depot_io.specs.Causes.{Rose};
 ghost use Rattle.depot_io.specs.Lines.{LIMIT};
-ghost use Rattle.table_desc.specs.Served.{IsServed};
-ghost use Rattle.depot_cli.specs.Reading.{Served, session};
-ghost use Rattle.depot_cli.specs.ScriptCalls.{IsAnswerable, IsReplied, IsReplyCause, IsReplyRoom, status_of_fault};
+ghost use Rattle.depot_cli.specs.Reading.{Serving, session};
+ghost use Rattle.depot_cli.specs.ScriptCalls.{IsAnswerable, IsItemCut, IsReplied, IsReplyCause, IsReplyRoom, status_of_fault};
 ghost use Rattle.depot_cli.specs.SerialJournal.{journal_after};
 ghost use Rattle.depot_cli.specs.KeptJournals.{IsKept};
 ghost use Rattle.depot_cli.specs.Replies.{is_refused, reply};
@@ -20,22 +19,21 @@ use depot_cell::Memory;
 use depot_io::{LineReader, Sink, Source, put_all};
 use std::alloc::Global;
 use std::mem;
-use table_desc::Desc;
+use table_desc::Served;
 
 /// Serves the session lines that a reader has left, up to the end of its input or to the word
 /// `end`. `base` is the place at which the reader's input begins.
 pub fn serve<S: Source, O: Sink>(
     alloc: Global,
-    desc: &Desc,
+    served: &Served,
     base: u64,
     reader: &mut LineReader<S>,
     sink: &mut O,
 ) -> Status
-    requires served { IsServed desc.now }
     requires in_input { base ≤ LIMIT }
     requires start { reader.old.taken ≡ 0 }
     ensures run { IfSome (S.bytes_left reader.old.source) (λ input.
-        IsRun (Served desc.now (session desc.now base input)) (O.bytes_got sink.old)
+        IsRun (Serving served.now.desc (session served.now.desc base input)) (O.bytes_got sink.old)
         (O.bytes_got sink.new) (S.bytes_left reader.new.source) (O.room sink.old) result) }
     ensures causes { HasRunCauses (S.faults reader.old.source) (S.faults reader.new.source)
         (O.faults sink.old) (O.faults sink.new) result }
@@ -43,7 +41,7 @@ pub fn serve<S: Source, O: Sink>(
     ensures loan { S.loan reader.new.source ≡ S.loan reader.old.source }
 {
     let mut journal = Journal::new(alloc);
-    let status = serve_items(alloc, desc, base, &mut journal, reader, sink);
+    let status = serve_items(alloc, served, base, &mut journal, reader, sink);
     // The process ends with the run: to give each row back by itself would be a tenth of loading.
     mem::forget(journal);
     status
@@ -52,19 +50,18 @@ pub fn serve<S: Source, O: Sink>(
 /// Serves the items over a journal that is empty.
 fn serve_items<S: Source, O: Sink>(
     alloc: Global,
-    desc: &Desc,
+    served: &Served,
     base: u64,
     journal: &mut Journal,
     reader: &mut LineReader<S>,
     sink: &mut O,
 ) -> Status
-    requires served { IsServed desc.now }
     requires in_input { base ≤ LIMIT }
     requires empty { journal.old.entries ≡ [] }
-    requires kept { IsKept desc.now journal.old }
+    requires kept { IsKept served.now.desc journal.old }
     requires start { reader.old.taken ≡ 0 }
     ensures run { IfSome (S.bytes_left reader.old.source) (λ input.
-        IsRun (Served desc.now (session desc.now base input)) (O.bytes_got sink.old)
+        IsRun (Serving served.now.desc (session served.now.desc base input)) (O.bytes_got sink.old)
         (O.bytes_got sink.new) (S.bytes_left reader.new.source) (O.room sink.old) result) }
     ensures causes { HasRunCauses (S.faults reader.old.source) (S.faults reader.new.source)
         (O.faults sink.old) (O.faults sink.new) result }
@@ -75,13 +72,13 @@ fn serve_items<S: Source, O: Sink>(
     let mut refused = false;
     let mut line = 1;
     'items: loop {
-        let work = match next_work(alloc, desc, base, reader, &mut body) {
+        let work = match next_work(alloc, served, base, reader, &mut body) {
             Ok(Some(work)) => work,
             Ok(None) => return end_of(refused),
             Err(fault) => return status_of(fault),
         };
         let is_refused = is_refused(&work);
-        match serve_item(alloc, desc, line, journal, work, sink) {
+        match serve_item(alloc, served, line, journal, work, sink) {
             Ok(()) => {}
             Err(status) => return status,
         }
@@ -94,25 +91,25 @@ fn serve_items<S: Source, O: Sink>(
 /// a front of the reply, and where there was no memory nothing.
 fn serve_item<O: Sink>(
     alloc: Global,
-    desc: &Desc,
+    served: &Served,
     line: u64,
     journal: &mut Journal,
     work: Work,
     sink: &mut O,
 ) -> Result<(), Status>
-    requires served { IsServed desc.now }
-    requires kept { IsKept desc.now journal.old }
+    requires kept { IsKept served.now.desc journal.old }
     requires in_range { IsAnswerable work }
     ensures replied { IsReplied (O.bytes_got sink.old) (O.bytes_got sink.new)
-        (reply desc.now line journal.old.entries work) result }
+        (reply served.now.desc line journal.old.entries work) result }
     ensures room { IsReplyRoom (O.room sink.old) (O.room sink.new)
-        (reply desc.now line journal.old.entries work) result }
+        (reply served.now.desc line journal.old.entries work) result }
     ensures ok { OnOk result
-        (journal.new.entries ≡ journal_after desc.now journal.old.entries work) }
-    ensures kept { OnOk result (IsKept desc.now journal.new) }
+        (journal.new.entries ≡ journal_after served.now.desc journal.old.entries work) }
+    ensures kept { OnOk result (IsKept served.now.desc journal.new) }
+    ensures err { IfErr result (IsItemCut served.now.desc journal.old journal.new work) }
     ensures cause { IsReplyCause (O.faults sink.old) (O.faults sink.new) result }
 {
-    let text = match answer(alloc, desc, line, journal, work) {
+    let text = match answer(alloc, served, line, journal, work) {
         Ok(text) => text,
         Err(Memory) => return Err(Status::Memory),
     };

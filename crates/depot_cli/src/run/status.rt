@@ -1,6 +1,6 @@
 //! How a run ended.
 
-ghost use Rattle.std.specs.Prelude.{◌≡◌};
+ghost use Rattle.std.specs.Prelude.{◌≡◌, nat_le};
 ghost use Rattle.depot_cli.specs.Runs.{code_of};
 
 use std::fmt;
@@ -51,9 +51,16 @@ pub enum Status {
 }
 
 impl Status {
+    /// Whether a line on standard error says how the run ended: the code is 2 or more.
+    pub fn is_told(&self) -> bool
+        ensures exact { result ≡ nat_le 2 (code_of self.now) }
+    {
+        self.code() >= 2
+    }
+
     /// The exit code of the program.
     pub fn code(&self) -> u8
-        ensures { result ≡ code_of self.now }
+        ensures exact { result ≡ code_of self.now }
     {
         match self {
             Status::Done => 0,

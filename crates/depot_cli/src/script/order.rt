@@ -6,12 +6,11 @@ ghost use Rattle.table_desc.specs.Sources.{width_of};
 ghost use Rattle.table_desc.specs.Time.{END as the_end};
 ghost use Rattle.view_meaning.specs.Partitions.{parts_met};
 ghost use Rattle.table_desc.specs.Words.{is_empty};
-ghost use Rattle.table_desc.specs.Served.{IsServed};
 ghost use Rattle.depot_cli.specs.Orders.{deliver_order, asked, head_of, item_of, item_read, number_below, order_of, order_of_words, query_order, sized};
 
 use depot_cell::{Memory, read_number};
 use std::alloc::Global;
-use table_desc::{Desc, END, Width, begins_comment, find_feed, find_table, is_word, words_of};
+use table_desc::{END, Served, Width, begins_comment, find_feed, find_table, is_word, words_of};
 use view_meaning::{Item, Mark, parts_of_span};
 
 /// The most bytes of a body.
@@ -48,19 +47,17 @@ pub enum Order {
 }
 
 /// What a line asks for, which is given without its LF.
-pub fn read_order(alloc: Global, desc: &Desc, line: &[u8]) -> Result<Order, Memory>
-    requires served { IsServed desc.now }
-    ensures exact { IfOk result (λ order. order ≡ order_of desc.now line.now) }
+pub fn read_order(alloc: Global, served: &Served, line: &[u8]) -> Result<Order, Memory>
+    ensures exact { IfOk result (λ order. order ≡ order_of served.now.desc line.now) }
 {
     match words_of(alloc, line) {
-        Ok(words) => Ok(order_of_words(desc, &words)),
+        Ok(words) => Ok(order_of_words(served, &words)),
         Err(Memory) => Err(Memory),
     }
 }
 
-fn order_of_words(desc: &Desc, words: &[&[u8]]) -> Order
-    requires served { IsServed desc.now }
-    ensures exact { result ≡ order_of_words desc.now (map (λ word. word.now) words.now) }
+fn order_of_words(served: &Served, words: &[&[u8]]) -> Order
+    ensures exact { result ≡ order_of_words served.now.desc (map (λ word. word.now) words.now) }
 {
     match words {
         [] => Order::Nothing,
@@ -68,9 +65,9 @@ fn order_of_words(desc: &Desc, words: &[&[u8]]) -> Order
             if begins_comment(first) {
                 Order::Nothing
             } else if is_word(first, b"deliver") {
-                deliver_order(desc, others)
+                deliver_order(served, others)
             } else if is_word(first, b"query") {
-                query_order(desc, others)
+                query_order(served, others)
             } else if is_alone(first, others, b"drain") {
                 Order::Drain
             } else if is_alone(first, others, b"end") {
@@ -90,13 +87,12 @@ fn is_alone(first: &[u8], others: &[&[u8]], word: &[u8]) -> bool
     is_word(first, word) && others.is_empty()
 }
 
-fn deliver_order(desc: &Desc, words: &[&[u8]]) -> Order
-    requires served { IsServed desc.now }
-    ensures exact { result ≡ deliver_order desc.now (map (λ word. word.now) words.now) }
+fn deliver_order(served: &Served, words: &[&[u8]]) -> Order
+    ensures exact { result ≡ deliver_order served.now.desc (map (λ word. word.now) words.now) }
 {
     match words {
         [feed, number, closes, size] => {
-            sized(head_of(desc, feed, number, closes), read_number(size))
+            sized(head_of(served, feed, number, closes), read_number(size))
         }
         _ => Order::Refused,
     }
@@ -112,22 +108,20 @@ fn sized(head: Option<Head>, size: Option<u64>) -> Order
     }
 }
 
-fn head_of(desc: &Desc, feed: &[u8], number: &[u8], closes: &[u8]) -> Option<Head>
-    requires served { IsServed desc.now }
-    ensures exact { result ≡ head_of desc.now feed.now number.now closes.now }
+fn head_of(served: &Served, feed: &[u8], number: &[u8], closes: &[u8]) -> Option<Head>
+    ensures exact { result ≡ head_of served.now.desc feed.now number.now closes.now }
 {
-    let feed = find_feed(desc, feed)?;
+    let feed = find_feed(served, feed)?;
     let number = number_below(1 << 32, number)? as u32;
     number_below(1, closes)?;
     Some(Head { feed, number })
 }
 
-fn query_order(desc: &Desc, words: &[&[u8]]) -> Order
-    requires served { IsServed desc.now }
-    ensures exact { result ≡ query_order desc.now (map (λ word. word.now) words.now) }
+fn query_order(served: &Served, words: &[&[u8]]) -> Order
+    ensures exact { result ≡ query_order served.now.desc (map (λ word. word.now) words.now) }
 {
     match words {
-        [table, from, to] => asked(item_read(desc, table, from, to)),
+        [table, from, to] => asked(item_read(served, table, from, to)),
         _ => Order::Refused,
     }
 }
@@ -141,22 +135,21 @@ fn asked(item: Option<Item>) -> Order
     }
 }
 
-fn item_read(desc: &Desc, table: &[u8], from: &[u8], to: &[u8]) -> Option<Item>
-    requires served { IsServed desc.now }
-    ensures exact { result ≡ item_read desc.now table.now from.now to.now }
+fn item_read(served: &Served, table: &[u8], from: &[u8], to: &[u8]) -> Option<Item>
+    ensures exact { result ≡ item_read served.now.desc table.now from.now to.now }
 {
-    let table = find_table(desc, table)?;
+    let table = find_table(served, table)?;
     let from = number_below(END + 1, from)?;
     let to = number_below(END + 1, to)?;
-    item_of(desc, table, from, to)
+    item_of(served, table, from, to)
 }
 
-fn item_of(desc: &Desc, table: u16, from: u64, to: u64) -> Option<Item>
-    requires there { table < length desc.now.tables }
+fn item_of(served: &Served, table: u16, from: u64, to: u64) -> Option<Item>
+    requires there { table < length served.now.desc.tables }
     requires in_time { to ≤ the_end }
-    ensures exact { result ≡ item_of desc.now table from to }
+    ensures exact { result ≡ item_of served.now.desc table from to }
 {
-    if from <= to && count_of(desc, table, from, to) <= PARTS_LIMIT {
+    if from <= to && count_of(served, table, from, to) <= PARTS_LIMIT {
         Some(Item {
             table,
             from,
@@ -168,21 +161,21 @@ fn item_of(desc: &Desc, table: u16, from: u64, to: u64) -> Option<Item>
     }
 }
 
-fn count_of(desc: &Desc, table: u16, from: u64, to: u64) -> u64
-    requires there { table < length desc.now.tables }
+fn count_of(served: &Served, table: u16, from: u64, to: u64) -> u64
+    requires there { table < length served.now.desc.tables }
     requires in_order { from ≤ to }
     requires in_time { to ≤ the_end }
     ensures exact { result ≡
-        length (parts_met (width_of (slice_get desc.now.tables table)) from to) }
+        length (parts_met (width_of (slice_get served.now.desc.tables table)) from to) }
 {
-    parts_of_span(width_of(desc, table), from, to).count
+    parts_of_span(width_of(served, table), from, to).count
 }
 
-fn width_of(desc: &Desc, table: u16) -> Width
-    requires there { table < length desc.now.tables }
-    ensures exact { result ≡ width_of (slice_get desc.now.tables table) }
+fn width_of(served: &Served, table: u16) -> Width
+    requires there { table < length served.now.desc.tables }
+    ensures exact { result ≡ width_of (slice_get served.now.desc.tables table) }
 {
-    desc.tables[table as usize].width
+    served.desc.tables[table as usize].width
 }
 
 fn number_below(limit: u64, word: &[u8]) -> Option<u64>

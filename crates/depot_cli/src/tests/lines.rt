@@ -3,17 +3,17 @@
 use crate::script::order::{Head, Order, read_order};
 use std::alloc::Global;
 use std::test::Fail;
-use table_desc::{Desc, Draft};
+use table_desc::{Draft, Served};
 use view_meaning::{Item, Mark};
 
-fn described(alloc: Global) -> Result<Desc, Fail> {
+fn described(alloc: Global) -> Result<Served, Fail> {
     let mut draft = Draft::new(alloc);
     draft.add_line(alloc, b"feed f")?;
     draft.add_line(
         alloc,
         b"raw r feed f width 10 time at cols at:int k:text n:int",
     )?;
-    Ok(draft.into_desc())
+    Ok(draft.into_served())
 }
 
 #[test]

@@ -13,26 +13,26 @@ returns-clause-exact c =
     ∙ ap (λ (name : List ℕ). loaded_text name inside.number
     (record { entry = c.len.result + 1; kept = c.len-2.result; aside = 0 }))
     c.feed_name-feed.ensures
-    ∙ ap (λ (place : ℕ). loaded_text (feed_name c.args.desc.now inside.feed) inside.number
+    ∙ ap (λ (place : ℕ). loaded_text (feed_name c.args.served.now.desc inside.feed) inside.number
     (record { entry = place + 1; kept = c.len-2.result; aside = 0 })) c.len.ensures.exact
-    ∙ ap (λ (rows : ℕ). loaded_text (feed_name c.args.desc.now inside.feed) inside.number (record {
+    ∙ ap (λ (rows : ℕ). loaded_text (feed_name c.args.served.now.desc inside.feed) inside.number (record {
       entry = length c.args.journal.now.entries + 1;
       kept = rows;
       aside = 0;
     }))
     (c.len-2.ensures ∙ inside.rows.ok.0)
     ∙ ap (λ (delivery : DeliveryOf).
-    loaded_text (feed_name c.args.desc.now delivery.feed) delivery.number (record {
+    loaded_text (feed_name c.args.served.now.desc delivery.feed) delivery.number (record {
       entry = length c.args.journal.now.entries + 1;
       kept = length delivery.rows;
       aside = 0;
     }))
     c.delivery.view_is
-    ∙ sym (load_reply-new c.args.desc.now c.args.journal.now.entries c.args.delivery
+    ∙ sym (load_reply-new c.args.served.now.desc c.args.journal.now.entries c.args.delivery
     (sym c.has.ensures ∙ c.if-has.false))
 
 pub returns-clause-kept : goal.returns-clause-kept
 returns-clause-kept c =
-    IsKept-load c.args.desc.now c.args.journal.now c.load.new.self c.args.delivery c.requires.kept
+    IsKept-load c.args.served.now.desc c.args.journal.now c.load.new.self c.args.delivery c.requires.kept
     (sym c.has.ensures ∙ c.if-has.false) c.in_ok-load.ensures.entries c.in_ok-load.ensures.fresh
     c.in_ok-load.ensures.versions

@@ -10,7 +10,7 @@ parts-preserved c =
     ∙ ap (λ (shown : List ℕ). c.parts.text.items ++ shown)
     (c.deref.ensures.value ∙ c.in_ok-shown.ensures.exact)
     ∙ parts-more c.args.table.now.name
-    (λ part. shown_part c.args.desc.now c.args.journal.now.entries
+    (λ part. shown_part c.args.served.now.desc c.args.journal.now.entries
     (record { table = c.args.number; part = part }))
     c.args.parts.first c.parts.part c.args.text.now.items c.parts.text.items
     c.parts.auto.part c.parts.invariant

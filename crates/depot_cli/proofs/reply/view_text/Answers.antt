@@ -8,9 +8,9 @@ use Rattle.depot_cli.proofs.reply.view_text.Goals as goal
 
 pub returns-in-Some : goal.returns-in-Some
 returns-in-Some c =
-    let shown : shown_part c.args.desc.now c.args.journal.now.entries c.args.key
+    let shown : shown_part c.args.served.now.desc c.args.journal.now.entries c.args.key
     ≡ shown_version c.args.key (Some c.in-Some.version.now) =
-    shown_part-view c.args.desc.now c.args.journal.now.entries c.args.key
+    shown_part-view c.args.served.now.desc c.args.journal.now.entries c.args.key
     (rw c.requires.there c.requires.view)
     ∙ ap (shown_version c.args.key) (sym (c.requires.kept.latest c.args.key)
     ∙ sym c.latest.ensures ∙ ap option_copied c.in-Some.is) in
@@ -22,9 +22,9 @@ returns-in-Some c =
 
 pub returns-in-None : goal.returns-in-None
 returns-in-None c =
-    let shown : shown_part c.args.desc.now c.args.journal.now.entries c.args.key
+    let shown : shown_part c.args.served.now.desc c.args.journal.now.entries c.args.key
     ≡ shown_version c.args.key None =
-    shown_part-view c.args.desc.now c.args.journal.now.entries c.args.key
+    shown_part-view c.args.served.now.desc c.args.journal.now.entries c.args.key
     (rw c.requires.there c.requires.view)
     ∙ ap (shown_version c.args.key) (sym (c.requires.kept.latest c.args.key)
     ∙ sym c.latest.ensures ∙ ap option_copied c.in-None.is) in

@@ -7,8 +7,8 @@ use Rattle.depot_cli.proofs.run.trial.Goals as goal
 pub returns-clause-run : goal.returns-clause-run
 returns-clause-run g c =
     IfSome_then _ c.in-Ok.ensures.answer (λ input opened.
-    IsRun-opened input c.in-Ok.opened.0 c.into_desc-desc.result c.in-Ok.opened.1 _ _ _ _ _ _
-    opened (sym c.bad.ensures.exact ∙ c.in-None.is) c.into_desc-desc.ensures.exact
+    IsRun-opened input c.in-Ok.opened.0 c.into_served.result.desc c.in-Ok.opened.1 _ _ _ _ _ _
+    opened (sym c.bad.ensures.exact ∙ c.in-None.is) c.into_served.ensures.exact
     c.serve_source.ensures.run)
 
 pub returns-in-Err-clause-run : goal.returns-in-Err-clause-run

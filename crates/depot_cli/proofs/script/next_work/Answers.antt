@@ -18,7 +18,7 @@ order_of-read desc line shown read asked is_line is_read is_asked =
 pub returns-in_err-take_line-clause-answer : goal.returns-in_err-take_line-clause-answer
 returns-in_err-take_line-clause-answer g c =
     rw (Err-passed c.from_residual.result c.in_err-take_line.field-0.0 c.from_residual.ensures.1)
-    (IsStep-line_fault c.args.desc.now c.args.base c.args.reader.now.taken
+    (IsStep-line_fault c.args.served.now.desc c.args.base c.args.reader.now.taken
     c.take_line.new.reader.taken c.take_line.new.reader.line
     (g.S.Source.bytes_left c.args.reader.now.source)
     (g.S.Source.bytes_left c.take_line.new.reader.source) c.in_err-take_line.field-0.0
@@ -27,12 +27,12 @@ returns-in_err-take_line-clause-answer g c =
 pub returns-in_err-take_body-in-Body-clause-answer :
     goal.returns-in_err-take_body-in-Body-clause-answer
 returns-in_err-take_body-in-Body-clause-answer g c =
-    let is_body = order_of-read c.args.desc.now c.take_line.new.reader.line c.line.result.now
+    let is_body = order_of-read c.args.served.now.desc c.take_line.new.reader.line c.line.result.now
     c.in_ok-read_order.field-0 (order.Body c.in-Body.head c.in-Body.size) c.line.ensures
     c.in_ok-read_order.ensures.exact c.in-Body.is in
     rw (Err-passed c.from_residual-in_err-take_body-in-Body.result
     c.in_err-take_body-in-Body.field-0.0 c.from_residual-in_err-take_body-in-Body.ensures.1)
-    (IsStep-body_fault c.args.desc.now c.args.base c.args.reader.now.taken
+    (IsStep-body_fault c.args.served.now.desc c.args.base c.args.reader.now.taken
     c.take_line.new.reader.taken c.take_body.new.reader.taken
     (c.args.base + c.args.reader.now.taken) c.in-Body.size c.in-Body.head
     c.take_line.new.reader.line c.take_body.new.body.items c.in_ok-take_line.field-0
@@ -45,10 +45,10 @@ returns-in_err-take_body-in-Body-clause-answer g c =
 pub returns-in_ok-body_work-in-Body-clause-answer :
     goal.returns-in_ok-body_work-in-Body-clause-answer
 returns-in_ok-body_work-in-Body-clause-answer g c =
-    let is_body = order_of-read c.args.desc.now c.take_line.new.reader.line c.line.result.now
+    let is_body = order_of-read c.args.served.now.desc c.take_line.new.reader.line c.line.result.now
     c.in_ok-read_order.field-0 (order.Body c.in-Body.head c.in-Body.size) c.line.ensures
     c.in_ok-read_order.ensures.exact c.in-Body.is in
-    IsStep-body c.args.desc.now c.args.base c.args.reader.now.taken
+    IsStep-body c.args.served.now.desc c.args.base c.args.reader.now.taken
     c.take_line.new.reader.taken c.take_body.new.reader.taken
     (c.args.base + c.args.reader.now.taken) c.in-Body.size c.in-Body.head
     c.take_line.new.reader.line c.take_body.new.body.items c.in_ok-take_line.field-0
@@ -60,4 +60,4 @@ returns-in_ok-body_work-in-Body-clause-answer g c =
     c.in_ok-take_line.ensures.taken c.in_ok-take_body-in-Body.ensures.answer
     c.in_ok-take_body-in-Body.ensures.taken
     (c.in_ok-body_work-in-Body.ensures.exact ∙ ap (λ (body : List ℕ).
-    body_work c.args.desc.now c.in-Body.head body) c.deref.ensures.value)
+    body_work c.args.served.now.desc c.in-Body.head body) c.deref.ensures.value)

@@ -9,5 +9,5 @@ abbrev pub invariant-keys : goal.invariant-keys
 invariant-keys l = record {
   installed : l.journal.entries
       ≡ fold with_install l.fn.journal.entries (take l.key-index l.key-items);
-  kept : HasInstalled l.desc l.journal;
+  kept : HasInstalled l.served.desc l.journal;
 }

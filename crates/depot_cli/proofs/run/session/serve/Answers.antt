@@ -4,5 +4,5 @@ use Rattle.depot_cli.proofs.run.session.serve.Goals as goal
 
 pub serve_items-status-requires-clause-kept : goal.serve_items-status-requires-clause-kept
 serve_items-status-requires-clause-kept g c =
-    IsKept-start c.args.desc.now c.new-journal.result c.new-journal.ensures.entries
+    IsKept-start c.args.served.now.desc c.new-journal.result c.new-journal.ensures.entries
     c.new-journal.ensures.fresh c.new-journal.ensures.versions

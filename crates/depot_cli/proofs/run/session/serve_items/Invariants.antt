@@ -10,11 +10,11 @@ use Rattle.depot_cli.proofs.run.session.serve_items.Given as goal
 abbrev pub invariant-items : goal.invariant-items
 invariant-items g l = record {
   served : IfSome (g.S.Source.bytes_left l.fn.reader.source) (λ input.
-      HasServed l.desc l.base (session l.desc l.base input)
+      HasServed l.served.desc l.base (session l.served.desc l.base input)
       (g.O.Sink.bytes_got l.fn.sink) (g.O.Sink.bytes_got l.sink)
       (g.O.Sink.room l.fn.sink) (g.O.Sink.room l.sink)
       l.journal.entries l.line l.refused l.reader.taken (g.S.Source.bytes_left l.reader.source));
-  kept : IsKept l.desc l.journal;
+  kept : IsKept l.served.desc l.journal;
   lines : l.line ≤ l.reader.taken + 1;
   within : l.reader.taken ≤ LIMIT;
   read : g.S.Source.faults l.reader.source ≡ g.S.Source.faults l.fn.reader.source;
