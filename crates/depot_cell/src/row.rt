@@ -26,7 +26,7 @@ impl Model for Row {
 impl Row {
     /// A row without cells.
     pub fn new(alloc: Global) -> Row
-        ensures { result ≡ [] }
+        ensures exact { result ≡ [] }
     {
         Row {
             cells: Vec::new(alloc),
@@ -35,7 +35,7 @@ impl Row {
 
     /// A row without cells that has room for some: so many pushes take no memory.
     pub fn with_capacity(alloc: Global, cells: usize) -> Result<Row, Memory>
-        ensures { IfOk result (λ row. row ≡ []) }
+        ensures ok { IfOk result (λ row. row ≡ []) }
     {
         Ok(Row {
             cells: Vec::with_capacity(alloc, cells)?,
@@ -44,7 +44,7 @@ impl Row {
 
     /// The cells.
     pub fn cells(&self) -> &[Cell]
-        ensures { result.now ≡ self.now }
+        ensures exact { result.now ≡ self.now }
     {
         self.cells.as_slice()
     }
@@ -101,7 +101,7 @@ impl Rows {
     /// The rows.
     pub fn rows(&self) -> &[Row]
         ensures exact { result.now ≡ self.now }
-        ensures few { length self.now < 2 ^ 44 }
+        ensures within { length self.now < 2 ^ 44 }
     {
         self.rows.as_slice()
     }

@@ -33,8 +33,8 @@ impl Model for Str {
 impl Str {
     /// Makes a text of bytes that are one.
     pub fn from_bytes(alloc: Global, bytes: &[u8]) -> Result<Str, Memory>
-        requires { IsShortText bytes.now }
-        ensures { IfOk result (λ text. text ≡ bytes.now) }
+        requires short { IsShortText bytes.now }
+        ensures exact { IfOk result (λ text. text ≡ bytes.now) }
     {
         Ok(Str {
             bytes: Vec::from_slice(alloc, bytes)?,
@@ -43,7 +43,7 @@ impl Str {
 
     /// The bytes of the text.
     pub fn as_bytes(&self) -> &[u8]
-        ensures value { result.now ≡ self.now }
+        ensures exact { result.now ≡ self.now }
         ensures short { IsShortText self.now }
     {
         self.bytes.as_slice()

@@ -26,7 +26,7 @@ pub fn read_rows(
     feed: u16,
     body: &[u8],
 ) -> Result<Option<Vec<DRow>>, Memory>
-    requires { length body.now ≤ 16_777_216 }
+    requires few { length body.now ≤ 16_777_216 }
     ensures exact { IfOk result (λ rows.
         option_map (λ rows. rows.items) rows ≡ rows_of served.now.desc feed body.now) }
 {

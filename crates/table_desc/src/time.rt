@@ -32,8 +32,8 @@ impl Model for Width {
 impl Width {
     /// A width of this many ticks.
     pub fn new(ticks: u64) -> Width
-        requires { IsWidth ticks }
-        ensures { result ≡ ticks }
+        requires in_range { IsWidth ticks }
+        ensures exact { result ≡ ticks }
     {
         Width { ticks }
     }

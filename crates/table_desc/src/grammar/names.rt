@@ -62,7 +62,7 @@ fn is_reserved(word: &[u8]) -> bool
 
 /// The text of a name.
 pub fn name_text(alloc: Global, name: &[u8]) -> Result<Str, Memory>
-    requires { IsTrue (is_name name.now) }
+    requires named { IsTrue (is_name name.now) }
     ensures exact { IfOk result (λ text. text ≡ name.now) }
 {
     Str::from_bytes(alloc, name)

@@ -17,5 +17,5 @@ read_records-requires c =
         source = made.source
             ∙ ap (λ (text : Bor (List ℕ)). Some (strip_bom text.now)) (sym made.rdr);
       };
-      few = rw made.rdr c.requires;
+      few = rw made.rdr c.requires.few;
     }
