@@ -1,5 +1,6 @@
 -- What is read as a cell of a type is a cell of that type.
-use Rattle.std.proofs.Common.{◌≡◌, ◌^◌, ◌≤◌, ℕ, zero, suc, ℤ, List, [], ◌∷◌, Bool, true, false, pos, neg_ℤ, Some, Ok, FitsSigned, length, refl, subst, rules, tests}
+use Rattle.std.proofs.Common.{◌≡◌, ◌^◌, ◌≤◌, ℕ, zero, suc, ℤ, List, [], ◌∷◌, Bool, true, false}
+use Rattle.std.proofs.Common.{pos, neg_ℤ, Some, Ok, FitsSigned, length, refl, subst, rules, tests}
 use Rattle.std.specs.Int.{w64}
 use Rattle.std.specs.Prelude.{Option, None, Err, Result, ◌==◌, nat_le, nat_lt, if◌then◌else◌}
 use Rattle.std.specs.Str.{IsUtf8, is_utf8}

@@ -1,5 +1,6 @@
 -- Which bytes are the text of a number or of an int, and of which.
-use Rattle.std.specs.Prelude.{Bool, List, Option, ℕ, ℤ, Some, None, pos, neg_ℤ, [], ◌∷◌, ◌&&◌, ◌+◌, ◌-◌, ◌*◌, ◌^◌, ◌==◌, if◌then◌else◌, length, nat_le, nat_lt}
+use Rattle.std.specs.Prelude.{Bool, List, Option, ℕ, ℤ, Some, None, pos, neg_ℤ, [], ◌∷◌, ◌&&◌, ◌+◌}
+use Rattle.std.specs.Prelude.{◌-◌, ◌*◌, ◌^◌, ◌==◌, if◌then◌else◌, length, nat_le, nat_lt}
 use Rattle.std.specs.List.{list_all}
 use Rattle.std.specs.Char.{is_ascii_digit}
 

@@ -1,5 +1,6 @@
 -- Which cell some bytes are.
-use Rattle.std.specs.Prelude.{List, Option, Result, ℕ, ℤ, Some, None, Ok, Err, ◌≡◌, if◌then◌else◌, length, nat_lt}
+use Rattle.std.specs.Prelude.{List, Option, Result, ℕ, ℤ, Some, None, Ok, Err, ◌≡◌, if◌then◌else◌}
+use Rattle.std.specs.Prelude.{length, nat_lt}
 use Rattle.std.specs.Str.{is_utf8}
 use Rattle.depot_cell.specs.declared.cell.Cell.{Cell}
 use Rattle.depot_cell.specs.declared.cell.Cell.TheVariants.{Int, Text}

@@ -3,7 +3,8 @@
 //! A `Rows` has fewer than 2^44 rows, so that a sum over all of them fits 128 bits. No memory holds
 //! so many: a push past that answers `Memory`.
 
-ghost use Rattle.std.specs.Prelude.{List, ◌≡◌, ◌++◌, ◌∷◌, [], ◌<◌, ◌^◌, length, OnOk, OnErr, IfErr, IfOk};
+ghost use Rattle.std.specs.Prelude.{List, ◌≡◌, ◌++◌, ◌∷◌, [], ◌<◌, ◌^◌, length, OnOk, OnErr};
+ghost use Rattle.std.specs.Prelude.{IfErr, IfOk};
 ghost use Rattle.depot_cell.specs.declared.cell.Cell.{Cell as CellOf};
 
 use crate::cell::{Cell, copy_cell};

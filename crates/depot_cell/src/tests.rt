@@ -1,4 +1,4 @@
-//! What no contract says: that each call succeeds where there is memory, and cases from outside.
+//! What no contract says: that each call succeeds if there is memory, and cases from outside.
 
 use crate::{
     Cell, CellFault, Op, Row, Rows, Str, Ty, cell_text, copy_cell, copy_row, holds, read_cell,
@@ -7,62 +7,44 @@ use crate::{
 use std::test::Fail;
 
 #[test]
-fn int_texts_are_read_or_refused(rt: HostRuntime) -> Result<(), Fail> {
-    let texts: [(&str, Option<i64>); 13] = [
-        ("0", Some(0)),
-        ("007", Some(7)),
-        ("-0", Some(0)),
-        ("-42", Some(-42)),
-        ("9223372036854775807", Some(9_223_372_036_854_775_807)),
-        ("-9223372036854775808", Some(-9_223_372_036_854_775_808)),
-        ("9223372036854775808", None),
-        ("-9223372036854775809", None),
-        ("00000000000000000007", None),
-        ("+5", None),
-        (" 5", None),
-        ("-", None),
-        ("", None),
+fn ints_and_numbers_are_read_or_refused(rt: HostRuntime) -> Result<(), Fail> {
+    let texts: [(&str, Option<i64>, Option<u64>); 12] = [
+        ("0", Some(0), Some(0)),
+        ("007", Some(7), Some(7)),
+        ("-0", Some(0), None),
+        ("-42", Some(-42), None),
+        (
+            "9223372036854775807",
+            Some(9_223_372_036_854_775_807),
+            Some(9_223_372_036_854_775_807),
+        ),
+        (
+            "-9223372036854775808",
+            Some(-9_223_372_036_854_775_808),
+            None,
+        ),
+        ("9223372036854775808", None, Some(9_223_372_036_854_775_808)),
+        ("-9223372036854775809", None, None),
+        ("00000000000000000007", None, None),
+        ("+5", None, None),
+        (" 5", None, None),
+        ("", None, None),
     ];
-    for (text, want) in texts {
+    for (text, int, number) in texts {
         match read_cell(rt.alloc(), Ty::Int, text.as_bytes()) {
-            Ok(cell) => assert_eq!(rt; Some(cell), want.map(Cell::Int), "at {text}"),
+            Ok(cell) => assert_eq!(rt; Some(cell), int.map(Cell::Int), "at {text}"),
             Err(fault) => {
                 assert_eq!(rt; fault, CellFault::BadInt, "at {text}");
-                assert_eq!(rt; want, None, "at {text}");
+                assert_eq!(rt; int, None, "at {text}");
             }
         }
+        assert_eq!(rt; read_number(text.as_bytes()), number, "at {text}");
     }
     Ok(())
 }
 
 #[test]
-fn texts_are_read_up_to_255_bytes(rt: HostRuntime) -> Result<(), Fail> {
-    let alloc = rt.alloc();
-    let mut bytes = Vec::new(alloc);
-    for _turn in 0..254 {
-        bytes.push(b'a')?;
-    }
-    bytes.push(0xff)?;
-    assert_eq!(rt; read_cell(alloc, Ty::Text, &bytes), Err(CellFault::NotUtf8));
-    bytes.push(b'a')?;
-    assert_eq!(rt;
-        read_cell(alloc, Ty::Text, &bytes),
-        Err(CellFault::LongText)
-    );
-    bytes.truncate(254);
-    bytes.push(b'a')?;
-    let cell = read_cell(alloc, Ty::Text, &bytes)?;
-    assert_eq!(rt; cell_text(alloc, &cell)?.len(), 255);
-    bytes.push(b'a')?;
-    assert_eq!(rt;
-        read_cell(alloc, Ty::Text, &bytes),
-        Err(CellFault::LongText)
-    );
-    Ok(())
-}
-
-#[test]
-fn cells_are_spelled_shortest(rt: HostRuntime) -> Result<(), Fail> {
+fn texts_are_read_and_spelled(rt: HostRuntime) -> Result<(), Fail> {
     let alloc = rt.alloc();
     for (ty, text, want) in [
         (Ty::Int, "007", "7"),
@@ -79,22 +61,22 @@ fn cells_are_spelled_shortest(rt: HostRuntime) -> Result<(), Fail> {
             "at {text}"
         );
     }
-    Ok(())
-}
-
-#[test]
-fn numbers_take_up_to_19_digits(rt: HostRuntime) {
-    for (text, want) in [
-        ("0", Some(0)),
-        ("0042", Some(42)),
-        ("9999999999999999999", Some(9_999_999_999_999_999_999)),
-        ("10000000000000000000", None),
-        ("-1", None),
-        ("4x", None),
-        ("", None),
-    ] {
-        assert_eq!(rt; read_number(text.as_bytes()), want, "at {text}");
+    let mut bytes = Vec::new(alloc);
+    for _turn in 0..254 {
+        bytes.push(b'a')?;
     }
+    bytes.push(0xff)?;
+    assert_eq!(rt; read_cell(alloc, Ty::Text, &bytes), Err(CellFault::NotUtf8));
+    bytes.push(b'a')?;
+    assert_eq!(rt;
+        read_cell(alloc, Ty::Text, &bytes),
+        Err(CellFault::LongText)
+    );
+    bytes.truncate(254);
+    bytes.push(b'a')?;
+    let cell = read_cell(alloc, Ty::Text, &bytes)?;
+    assert_eq!(rt; cell_text(alloc, &cell)?.len(), 255);
+    Ok(())
 }
 
 #[test]
@@ -102,7 +84,7 @@ fn rows_are_built_and_copied(rt: HostRuntime) -> Result<(), Fail> {
     let alloc = rt.alloc();
     let mut row = Row::with_capacity(alloc, 1)?;
     row.push(Cell::Int(-7))?;
-    row.push(read_cell(alloc, Ty::Text, b"seven")?)?;
+    row.push(read_cell(alloc, Ty::Text, b"")?)?;
     let copy = copy_row(alloc, &row)?;
     assert_eq!(rt; copy.cells(), row.cells());
     let mut rows = Rows::new(alloc);
@@ -115,7 +97,7 @@ fn rows_are_built_and_copied(rt: HostRuntime) -> Result<(), Fail> {
 }
 
 #[test]
-fn ints_stand_before_texts_and_texts_by_their_bytes(rt: HostRuntime) -> Result<(), Fail> {
+fn cells_are_ordered_and_compared(rt: HostRuntime) -> Result<(), Fail> {
     let alloc = rt.alloc();
     let cells = [
         Cell::Int(-1),
@@ -131,11 +113,6 @@ fn ints_stand_before_texts_and_texts_by_their_bytes(rt: HostRuntime) -> Result<(
         }
         assert_eq!(rt; &copy_cell(alloc, lower)?, lower, "at {i}");
     }
-    Ok(())
-}
-
-#[test]
-fn conditions_hold_by_their_operator(rt: HostRuntime) {
     for (op, below, same, above) in [
         (Op::Eq, false, true, false),
         (Op::Ne, true, false, true),
@@ -144,12 +121,10 @@ fn conditions_hold_by_their_operator(rt: HostRuntime) {
         (Op::Gt, false, false, true),
         (Op::Ge, false, true, true),
     ] {
-        assert_eq!(rt;
-            holds(op, &Cell::Int(-5), &Cell::Int(4)),
-            below,
-            "at {op:?}"
-        );
-        assert_eq!(rt; holds(op, &Cell::Int(4), &Cell::Int(4)), same, "at {op:?}");
-        assert_eq!(rt; holds(op, &Cell::Int(5), &Cell::Int(4)), above, "at {op:?}");
+        for (left, want) in [(-5, below), (4, same), (5, above)] {
+            let holds = holds(op, &Cell::Int(left), &Cell::Int(4));
+            assert_eq!(rt; holds, want, "at {left} {op:?} 4");
+        }
     }
+    Ok(())
 }

@@ -1,6 +1,7 @@
 -- Lemmas on the rows of a body: cells and rows are read from the front, and `with_front` puts
 -- what was read before what the rest is.
-use Rattle.std.proofs.Common.{◌≡◌, ◌∙◌, ◌+◌, ◌<◌, ◌≤◌, ◌∷◌, ◌++◌, [], ℕ, zero, suc, List, Option, Some, None, drop, get_or, length, refl, sym, ap, true, false, arith}
+use Rattle.std.proofs.Common.{◌≡◌, ◌∙◌, ◌+◌, ◌<◌, ◌≤◌, ◌∷◌, ◌++◌, [], ℕ, zero, suc, List, Option}
+use Rattle.std.proofs.Common.{Some, None, drop, get_or, length, refl, sym, ap, true, false, arith}
 use Rattle.std.specs.Prelude.{option_map, slice_get}
 use Rattle.std.specs.Result.{result_ok}
 use Rattle.std.proofs.lemmas.List.{append-nil, drop_more}
@@ -14,9 +15,11 @@ use Rattle.table_desc.specs.declared.table.Column.{Column}
 use Rattle.table_desc.specs.declared.delivery.DRow.{DRow}
 use Rattle.table_desc.specs.Descriptions.{DescOf}
 use Rattle.table_desc.specs.Tables.{TableOf}
-use Rattle.feed_csv.specs.Bodies.{cells_of, find_raw_table, records_of, row_of, rows_from, rows_of, table_cells}
+use Rattle.feed_csv.specs.Bodies.{cells_of, find_raw_table, records_of, row_of, rows_from, rows_of}
+use Rattle.feed_csv.specs.Bodies.{table_cells}
 use Rattle.table_desc.specs.Front.{with_first}
-use Rattle.table_desc.proofs.FrontLemmas.{with_first-none, with_front, with_front-push, with_front-empty}
+use Rattle.table_desc.proofs.FrontLemmas.{with_first-none, with_front, with_front-push}
+use Rattle.table_desc.proofs.FrontLemmas.{with_front-empty}
 use Rattle.feed_csv.proofs.CsvRecords.{Yields, Yields-empty, Yields-step, records-le}
 
 -- as many cells as columns, or none
@@ -138,7 +141,12 @@ pub ReadsRows-start : {R : Type 0} (rem : R → Option (List ℕ)) (desc : DescO
     → ReadsRows rem desc feed body reader 1 []
 ReadsRows-start rem desc feed body reader yields =
     let short = records-le body in
-    record { rest = records_of body; yields = yields; few = omega arith; whole = with_front-empty _ }
+    record {
+      rest = records_of body;
+      yields = yields;
+      few = omega arith;
+      whole = with_front-empty _;
+    }
 
 -- a record that is a row adds it
 pub ReadsRows-push : {R : Type 0} (rem : R → Option (List ℕ)) (desc : DescOf) (feed : ℕ)

@@ -1,12 +1,16 @@
 -- Reading the records of a text one by one, with the default setup. `Yields` says which records a
 -- reader gives from here on: `Yields-start` is for a new one, `Yields-step` and `Yields-empty` are
 -- for a read.
-use Rattle.std.proofs.Common.{◌≡◌, ◌∙◌, ◌+◌, ◌-◌, ◌<◌, ◌≤◌, ◌∷◌, [], ℕ, zero, suc, List, Option, Some, None, length, refl, sym, ap, true, false, arith, inl, inr}
+use Rattle.std.proofs.Common.{◌≡◌, ◌∙◌, ◌+◌, ◌-◌, ◌<◌, ◌≤◌, ◌∷◌, [], ℕ, zero, suc, List, Option}
+use Rattle.std.proofs.Common.{Some, None, length, refl, sym, ap, true, false, arith, inl, inr}
 use Rattle.std.specs.Prelude.{IfSome}
 use Rattle.std.proofs.lemmas.Bool.{cases_Bool}
 use Rattle.csv.proofs.ReadFacts.{rows-end, rows-more}
-use Rattle.csv.specs.Machine.{Read, ends_at_end, field_after, fields_after, in_field, is_end, next_record, step}
-use Rattle.csv.specs.Reading.{Reached, ReadRecord, Ready, default_config, reader_config, reader_state, reader_trim, records, records_from, records_next, source_of, strip_bom, took_first}
+use Rattle.csv.specs.Machine.{Read, ends_at_end, field_after, fields_after, in_field, is_end}
+use Rattle.csv.specs.Machine.{next_record, step}
+use Rattle.csv.specs.Reading.{Reached, ReadRecord, Ready, default_config, reader_config}
+use Rattle.csv.specs.Reading.{reader_state, reader_trim, records, records_from, records_next}
+use Rattle.csv.specs.Reading.{source_of, strip_bom, took_first}
 use Rattle.csv.specs.declared.parser.State.{State}
 use Rattle.csv.specs.declared.parser.State.TheVariants as st
 use Rattle.csv.specs.declared.reader.Reader.{Reader}
@@ -43,7 +47,8 @@ step-between st.AfterCr byte ends = grind (arith, in_field-between)
 LeavesLess-push : (byte : ℕ) (text : List ℕ) (read : Option Read)
     → IfSome read (Leaves text) → IfSome read (LeavesLess (byte ∷ text))
 LeavesLess-push byte text None leaves = tt
-LeavesLess-push byte text (Some read) leaves = record { less = omega arith; between = leaves.between }
+LeavesLess-push byte text (Some read) leaves =
+    record { less = omega arith; between = leaves.between }
 
 -- with a byte more in front, that was taken, no more text is left either
 Leaves-push : (byte : ℕ) (text : List ℕ) (read : Option Read)

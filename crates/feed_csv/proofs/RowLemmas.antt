@@ -1,11 +1,13 @@
 -- The rows of a body fit the description: `rows_fit`.
-use Rattle.std.proofs.Common.{◌≡◌, ◌+◌, ◌<◌, ◌≤◌, ◌∷◌, [], ℕ, List, Option, Some, None, true, get_or, length, refl, subst, arith, rules, tests}
+use Rattle.std.proofs.Common.{◌≡◌, ◌+◌, ◌<◌, ◌≤◌, ◌∷◌, [], ℕ, List, Option, Some, None, true}
+use Rattle.std.proofs.Common.{get_or, length, refl, subst, arith, rules, tests}
 use Rattle.std.specs.Prelude.{All, IsSomeAnd, ◌&&◌, option_map, slice_get}
 use Rattle.std.specs.List.{AllAdjacentBelow, AllZip}
 use Rattle.std.specs.Str.{bytes_eq}
 use Rattle.std.proofs.lemmas.List.Elements.{All-cons, All-nil}
 use Rattle.std.proofs.lemmas.List.Quantifiers.{position-Some}
-use Rattle.std.proofs.lemmas.Option.{cond_some, get_or_from_slice_get, option_and_then_some, same_Some}
+use Rattle.std.proofs.lemmas.Option.{cond_some, get_or_from_slice_get, option_and_then_some}
+use Rattle.std.proofs.lemmas.Option.{same_Some}
 use Rattle.depot_cell.specs.declared.cell.Cell.{Cell}
 use Rattle.depot_cell.specs.Cells.{IsCell, ty_of}
 use Rattle.depot_cell.proofs.ReadingLemmas.{gives_cells}
@@ -17,7 +19,8 @@ use Rattle.table_desc.specs.KindValues.{KindOf, Raw, Filter, Group, Join}
 use Rattle.table_desc.specs.Time.{END}
 use Rattle.table_desc.proofs.FrontLemmas.{with_first-some}
 use Rattle.view_meaning.specs.Journal.{FitsRow, IsRawOf, IsRowOf}
-use Rattle.feed_csv.specs.Bodies.{cells_of, find_raw_table, is_in_time, is_raw_of, records_of, row_of, rows_from, table_cells, timed}
+use Rattle.feed_csv.specs.Bodies.{cells_of, find_raw_table, is_in_time, is_raw_of, records_of}
+use Rattle.feed_csv.specs.Bodies.{row_of, rows_from, table_cells, timed}
 use Rattle.feed_csv.specs.Rows.{RowsFit}
 use Rattle.feed_csv.proofs.ListLemmas.{AllAdjacentBelow-cons, option_map-some, result_ok-some}
 
@@ -136,7 +139,11 @@ AreRowsFrom-rows_from : (desc : DescOf) (feed number : ℕ) (records : List (Lis
     → rows_from desc feed number records ≡ Some rows → AreRowsFrom desc feed number rows
 AreRowsFrom-rows_from desc feed number [] rows read = subst (AreRowsFrom desc feed number)
     (same_Some _ _ read)
-    (record { fit = All-nil _; from = All-nil _; rising = λ index default within. absurd (omega arith) })
+    (record {
+      fit = All-nil _;
+      from = All-nil _;
+      rising = λ index default within. absurd (omega arith);
+    })
 AreRowsFrom-rows_from desc feed number (fields ∷ others) rows read =
     with_first-some _ _ rows read (λ row rest first behind same.
     subst (AreRowsFrom desc feed number) same (AreRowsFrom-cons desc feed number row rest

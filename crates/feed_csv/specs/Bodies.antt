@@ -1,8 +1,11 @@
 -- The rows of a delivery's body: one for each record of the CSV text.
-use Rattle.std.specs.Prelude.{ℕ, ◌≡◌, ◌+◌, List, [], ◌∷◌, Option, Some, None, Bool, false, ◌&&◌, nat_eq, nat_lt, if◌then◌else◌, slice_get, option_and_then, option_map, position}
+use Rattle.std.specs.Prelude.{ℕ, ◌≡◌, ◌+◌, List, [], ◌∷◌, Option, Some, None, Bool, false, ◌&&◌}
+use Rattle.std.specs.Prelude.{nat_eq, nat_lt, if◌then◌else◌, slice_get, option_and_then}
+use Rattle.std.specs.Prelude.{option_map, position}
 use Rattle.std.specs.Result.{result_ok}
 use Rattle.std.specs.Str.{bytes_eq}
-use Rattle.csv.specs.Reading.{Ready, default_config, reader_config, reader_state, reader_trim, records, source_of, strip_bom}
+use Rattle.csv.specs.Reading.{Ready, default_config, reader_config, reader_state, reader_trim}
+use Rattle.csv.specs.Reading.{records, source_of, strip_bom}
 use Rattle.csv.specs.declared.parser.State.TheVariants as st
 use Rattle.csv.specs.declared.reader.Reader.{Reader}
 use Rattle.csv.specs.declared.reader.Trim.TheVariants as trim

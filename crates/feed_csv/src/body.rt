@@ -3,7 +3,8 @@
 //! A body is CSV text without a header. The first field of a record names a raw table of the
 //! delivery's feed, the others are the row's cells. Records are numbered from 1.
 
-ghost use Rattle.std.specs.Prelude.{◌≡◌, ◌<◌, ◌≤◌, ◌&&◌, IfOk, IfSome, Some, drop, length, option_map, position, slice_get};
+ghost use Rattle.std.specs.Prelude.{◌≡◌, ◌<◌, ◌≤◌, ◌&&◌, IfOk, IfSome, Some, drop, length};
+ghost use Rattle.std.specs.Prelude.{option_map, position, slice_get};
 ghost use Rattle.std.specs.Str.{bytes_eq};
 ghost use Rattle.csv.specs.Reading.{reader_source};
 ghost use Rattle.csv.specs.Records.{fields_of};
@@ -11,7 +12,8 @@ ghost use Rattle.depot_cell.specs.declared.cell.Cell.TheVariants.{Int};
 ghost use Rattle.table_desc.specs.Kinds.{kind_of};
 ghost use Rattle.view_meaning.specs.Journal.{row_tick, tick_of};
 ghost use Rattle.feed_csv.specs.Rows.{RowsFit};
-ghost use Rattle.feed_csv.specs.Bodies.{BeginsBody, cells_of, is_in_time, is_raw_of, find_raw_table, row_of, rows_of, table_cells};
+ghost use Rattle.feed_csv.specs.Bodies.{BeginsBody, cells_of, is_in_time, is_raw_of};
+ghost use Rattle.feed_csv.specs.Bodies.{find_raw_table, row_of, rows_of, table_cells};
 
 use csv::{ByteRecord, Reader, ReaderBuilder};
 use depot_cell::{Cell, Memory, Row};
@@ -86,7 +88,8 @@ fn read_row(
     number: u32,
     fields: &ByteRecord,
 ) -> Result<Option<DRow>, Memory>
-    ensures exact { IfOk result (λ row. row ≡ row_of served.now.desc feed number (fields_of fields.now)) }
+    ensures exact { IfOk result (λ row.
+        row ≡ row_of served.now.desc feed number (fields_of fields.now)) }
 {
     let Some(name) = fields.get(0) else {
         return Ok(None);

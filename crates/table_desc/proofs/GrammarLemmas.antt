@@ -1,5 +1,7 @@
 -- What a line adds to a description.
-use Rattle.std.proofs.Common.{◌≡◌, ℕ, ◌+◌, ◌<◌, ◌≤◌, Bor, List, ◌∷◌, Option, Some, None, Bool, true, false, is_some, unwrap_or, length, map, get_or, drop, ap, refl, arith}
+use Rattle.std.proofs.Common.{◌≡◌, ℕ, ◌+◌, ◌<◌, ◌≤◌, Bor, List, ◌∷◌, Option, Some, None, Bool}
+use Rattle.std.proofs.Common.{true, false, is_some, unwrap_or, length, map, get_or, drop, ap, refl}
+use Rattle.std.proofs.Common.{arith}
 use Rattle.table_desc.specs.Descriptions.{DescOf}
 use Rattle.table_desc.specs.RawTables.{read_raw_table}
 use Rattle.table_desc.specs.Filters.{filter_from, read_filter, is_filter}
@@ -21,7 +23,8 @@ declared_by-enough desc (_ ∷ _ ∷ _ ∷ others) default more = refl
 declared_by-enough desc _ default more = absurd (omega arith)
 
 -- fewer than seven words after the name say no raw table
-pub read_raw_table-none : (desc : DescOf) (name : List ℕ) (words : List (Bor (List ℕ))) → length words < 7
+pub read_raw_table-none : (desc : DescOf) (name : List ℕ) (words : List (Bor (List ℕ)))
+    → length words < 7
     → read_raw_table desc name (map (λ word. word.now) words) ≡ None
 read_raw_table-none desc name (_ ∷ _ ∷ _ ∷ _ ∷ _ ∷ _ ∷ _ ∷ others) few = absurd (omega arith)
 read_raw_table-none desc name _ few = refl
@@ -46,22 +49,22 @@ read_filter-enough desc name (_ ∷ _ ∷ _ ∷ _ ∷ _ ∷ _ ∷ _ ∷ others) 
 read_filter-enough desc name _ default more fits = absurd (omega arith)
 
 -- a line that declares something
-pub with_declared-some : (before : Described) (declared : Option DescOf) (told : Bool)
+pub with_declared-some : (before : Described) (declared : Option DescOf) (is_declared : Bool)
     → (desc : DescOf)
-    → told ≡ is_some declared → told ≡ true → desc ≡ unwrap_or declared before.desc
+    → is_declared ≡ is_some declared → is_declared ≡ true → desc ≡ unwrap_or declared before.desc
     → record { desc = desc; lines = before.lines + 1; bad = before.bad }
     ≡ with_declared before declared
-with_declared-some before None told desc same good left = cc
-with_declared-some before (Some new) told desc same good left =
+with_declared-some before None is_declared desc same good left = cc
+with_declared-some before (Some new) is_declared desc same good left =
     ap (λ (desc : DescOf). record before { desc = desc; lines = before.lines + 1 }) left
 
 -- a bad line
-pub with_declared-none : (before : Described) (declared : Option DescOf) (told : Bool)
+pub with_declared-none : (before : Described) (declared : Option DescOf) (is_declared : Bool)
     → (desc : DescOf)
-    → told ≡ is_some declared → told ≡ false → desc ≡ unwrap_or declared before.desc
+    → is_declared ≡ is_some declared → is_declared ≡ false → desc ≡ unwrap_or declared before.desc
     → record { desc = desc; lines = before.lines + 1; bad = Some (before.lines + 1) }
     ≡ with_declared before declared
-with_declared-none before None told desc same bad left =
+with_declared-none before None is_declared desc same bad left =
     ap (λ (desc : DescOf).
     record { desc = desc; lines = before.lines + 1; bad = Some (before.lines + 1) }) left
-with_declared-none before (Some new) told desc same bad left = cc
+with_declared-none before (Some new) is_declared desc same bad left = cc

@@ -1,5 +1,6 @@
 -- General facts on lists and options.
-use Rattle.std.proofs.Common.{◌≡◌, ℕ, zero, suc, ◌<◌, ◌++◌, List, [], ◌∷◌, Option, Some, None, Bool, true, false, length, subst, refl, arith, rules}
+use Rattle.std.proofs.Common.{◌≡◌, ℕ, zero, suc, ◌<◌, ◌++◌, List, [], ◌∷◌, Option, Some, None}
+use Rattle.std.proofs.Common.{Bool, true, false, length, subst, refl, arith, rules}
 use Rattle.std.specs.Prelude.{slice_get, if◌then◌else◌}
 
 -- what is so of each place of a list, and of one more element at its end, is so of each place

@@ -1,5 +1,6 @@
 -- Selections: the conditions so far, and what the words after them say.
-use Rattle.std.proofs.Common.{◌≡◌, ℕ, ◌<◌, ◌≤◌, Bor, true, false, List, [], ◌∷◌, ◌++◌, refl, sym, ap, get_or, map, drop, length, arith, append_assoc}
+use Rattle.std.proofs.Common.{◌≡◌, ℕ, ◌<◌, ◌≤◌, Bor, true, false, List, [], ◌∷◌, ◌++◌, refl, sym}
+use Rattle.std.proofs.Common.{ap, get_or, map, drop, length, arith, append_assoc}
 use Rattle.std.specs.Prelude.{Option, Some, None, codes}
 use Rattle.std.specs.Str.{bytes_eq}
 use Rattle.table_desc.specs.declared.table.Column.{Column}
@@ -37,12 +38,13 @@ pub read_selection-step : (columns : List Column) (words : List (Bor (List ℕ))
     → bytes_eq (get_or words 3 default).now (codes "keep") ≡ false
     → bytes_eq (get_or words 3 default).now (codes "and") ≡ true
     → with_conds front (read_selection columns (map (λ word. word.now) words))
-    ≡ with_conds (front ++ cond ∷ []) (read_selection columns (map (λ word. word.now) (drop 4 words)))
+    ≡ with_conds (front ++ cond ∷ [])
+    (read_selection columns (map (λ word. word.now) (drop 4 words)))
 read_selection-step columns [] default front cond enough told last more = absurd (omega arith)
 read_selection-step columns (_ ∷ []) default front cond enough told last more = absurd (omega arith)
 read_selection-step columns (_ ∷ _ ∷ []) default front cond enough told last more =
     absurd (omega arith)
 read_selection-step columns (_ ∷ _ ∷ _ ∷ []) default front cond enough told last more =
     absurd (omega arith)
-read_selection-step columns (name ∷ op ∷ literal ∷ next ∷ others) default front cond enough told last
-    more = rw (last, more, ← told) (with_conds-push front cond _)
+read_selection-step columns (name ∷ op ∷ literal ∷ next ∷ others) default front cond enough said last
+    more = rw (last, more, ← said) (with_conds-push front cond _)

@@ -1,7 +1,9 @@
 -- A description stays served if one table is added: `IsServed-push`. The tables that lines say may
 -- be added: `IsNextTable-read_table`.
-use Rattle.std.proofs.Common.{◌≡◌, ℕ, ◌<◌, ◌≤◌, ◌++◌, List, [], ◌∷◌, Option, Some, None, Bool, true, false, length, subst, ap, refl, arith, rules, tests}
-use Rattle.std.specs.Prelude.{All, slice_get, option_and_then, option_map, if◌then◌else◌, not, pos, codes}
+use Rattle.std.proofs.Common.{◌≡◌, ℕ, ◌<◌, ◌≤◌, ◌++◌, List, [], ◌∷◌, Option, Some, None, Bool}
+use Rattle.std.proofs.Common.{true, false, length, subst, ap, refl, arith, rules, tests}
+use Rattle.std.specs.Prelude.{All, slice_get, option_and_then, option_map, if◌then◌else◌, not, pos}
+use Rattle.std.specs.Prelude.{codes}
 use Rattle.std.specs.Str.{bytes_eq}
 use Rattle.std.proofs.lemmas.List.{length-append}
 use Rattle.std.proofs.lemmas.List.Elements.{All-cons, All-nil, All-push}
@@ -13,13 +15,15 @@ use Rattle.table_desc.specs.declared.table.Column.{Column}
 use Rattle.table_desc.specs.declared.view.Src.{Src}
 use Rattle.table_desc.specs.Descriptions.{DescOf}
 use Rattle.table_desc.specs.Tables.{TableOf}
-use Rattle.table_desc.specs.Sources.{HasAlignedSources, IsAligned, HasEarlierSources, kind_sources, table_width, width_of}
+use Rattle.table_desc.specs.Sources.{HasAlignedSources, IsAligned, HasEarlierSources, kind_sources}
+use Rattle.table_desc.specs.Sources.{table_width, width_of}
 use Rattle.table_desc.specs.Served.{IsNextTable, IsServed}
 use Rattle.table_desc.specs.Names.{find_feed, find_table}
 use Rattle.table_desc.specs.Columns.{are_columns, columns_of, kept_columns, find_time}
 use Rattle.table_desc.specs.RawTables.{are_raw_keywords, read_raw_table, raw_table, read_width}
 use Rattle.table_desc.specs.Selections.{SelectionOf, read_selection}
-use Rattle.table_desc.specs.Filters.{filter_over, read_filter, filter_table, is_filter, is_multiple}
+use Rattle.table_desc.specs.Filters.{filter_over, read_filter, filter_table, is_filter}
+use Rattle.table_desc.specs.Filters.{is_multiple}
 use Rattle.table_desc.specs.Grammar.{read_table}
 
 -- the width of an earlier table stays
@@ -111,7 +115,8 @@ IsNextTable-filter_table : (desc : DescOf) (name : List ℕ) (width source : ℕ
     → filter_table name width source table selection ≡ Some filter → IsNextTable desc filter
 IsNextTable-filter_table desc name width source table selection filter there said =
     let made = cond_some _ _ _ said in
-    let fit : are_columns (kept_columns table.columns selection.keep) ≡ true = search (rules, made.0) in
+    let kept = kept_columns table.columns selection.keep in
+    let fit : are_columns kept ≡ true = search (rules, made.0) in
     let whole : is_multiple width table.width ≡ true = search (rules, made.0) in
     let own : IsAligned width (table_width desc source) (record { lo = pos 0; hi = pos 0 }) =
     record { lo = refl; hi = refl; whole = rw there (eqb-true _ _ whole) } in
@@ -124,10 +129,11 @@ IsNextTable-filter_table desc name width source table selection filter there sai
     })
 
 -- what words say after `raw` and a name may be added
-IsNextTable-read_raw_table : (desc : DescOf) (name : List ℕ) (words : List (List ℕ)) (table : TableOf)
+IsNextTable-read_raw_table : (desc : DescOf) (name : List ℕ) (words : List (List ℕ))
+    (table : TableOf)
     → read_raw_table desc name words ≡ Some table → IsNextTable desc table
-IsNextTable-read_raw_table desc name (feed ∷ of_feed ∷ width ∷ ticks ∷ time ∷ of_time ∷ cols ∷ columns) table
-    said =
+IsNextTable-read_raw_table desc name
+    (feed ∷ of_feed ∷ width ∷ ticks ∷ time ∷ of_time ∷ cols ∷ columns) table said =
     option_and_then_some (raw_table desc name of_feed ticks of_time) (columns_of columns) table
     (if-some (are_raw_keywords feed width time cols) _ table said)
     (λ columns there made. IsNextTable-raw_table desc name of_feed ticks of_time columns table made)
@@ -147,7 +153,8 @@ IsNextTable-filter_over desc name ticks words source (Some table) filter there s
 -- what words say after `view` and a name may be added
 IsNextTable-read_filter : (desc : DescOf) (name : List ℕ) (words : List (List ℕ)) (filter : TableOf)
     → read_filter desc name words ≡ Some filter → IsNextTable desc filter
-IsNextTable-read_filter desc name (width ∷ ticks ∷ word ∷ source ∷ lo ∷ hi ∷ given ∷ words) filter said =
+IsNextTable-read_filter desc name
+    (width ∷ ticks ∷ word ∷ source ∷ lo ∷ hi ∷ given ∷ words) filter said =
     option_and_then_some _ (find_table desc source) filter
     (if-some (is_filter width word lo hi given) _ filter said) (λ source named made.
     IsNextTable-filter_over desc name ticks words source _ filter refl made)

@@ -1,5 +1,7 @@
 -- The columns of a table: those that words declare, and those that a view keeps.
-use Rattle.std.specs.Prelude.{ℕ, ◌+◌, List, [], ◌∷◌, Option, Some, None, Bool, true, false, not, ◌==◌, ◌&&◌, nat_lt, nat_le, if◌then◌else◌, length, take, drop, codes, position, option_and_then, option_map, filter_map, slice_get}
+use Rattle.std.specs.Prelude.{ℕ, ◌+◌, List, [], ◌∷◌, Option, Some, None, Bool, true, false, not}
+use Rattle.std.specs.Prelude.{◌==◌, ◌&&◌, nat_lt, nat_le, if◌then◌else◌, length, take, drop, codes}
+use Rattle.std.specs.Prelude.{position, option_and_then, option_map, filter_map, slice_get}
 use Rattle.std.specs.Str.{bytes_eq}
 use Rattle.std.specs.List.{list_any}
 use Rattle.depot_cell.specs.declared.cell.Ty.{Ty}

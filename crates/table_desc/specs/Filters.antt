@@ -1,5 +1,7 @@
 -- Filters: a source and a selection.
-use Rattle.std.specs.Prelude.{ℕ, pos, ◌*◌, ◌%◌, List, [], ◌∷◌, Option, Some, None, Bool, false, ◌==◌, ◌&&◌, nat_le, if◌then◌else◌, length, codes, option_and_then, slice_get}
+use Rattle.std.specs.Prelude.{ℕ, pos, ◌*◌, ◌%◌, List, [], ◌∷◌, Option, Some, None, Bool, false}
+use Rattle.std.specs.Prelude.{◌==◌, ◌&&◌, nat_le, if◌then◌else◌, length, codes, option_and_then}
+use Rattle.std.specs.Prelude.{slice_get}
 use Rattle.std.specs.Str.{bytes_eq}
 use Rattle.depot_cell.specs.Numbers.{number_of}
 use Rattle.table_desc.specs.Descriptions.{DescOf}

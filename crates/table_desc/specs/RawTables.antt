@@ -1,5 +1,6 @@
 -- Raw tables: a feed, a width, a time column and columns.
-use Rattle.std.specs.Prelude.{ℕ, List, ◌∷◌, Option, Some, None, Bool, not, ◌&&◌, nat_le, if◌then◌else◌, codes, option_and_then, option_map}
+use Rattle.std.specs.Prelude.{ℕ, List, ◌∷◌, Option, Some, None, Bool, not, ◌&&◌, nat_le}
+use Rattle.std.specs.Prelude.{if◌then◌else◌, codes, option_and_then, option_map}
 use Rattle.std.specs.Str.{bytes_eq}
 use Rattle.depot_cell.specs.Numbers.{number_of}
 use Rattle.table_desc.specs.declared.table.Column.{Column}

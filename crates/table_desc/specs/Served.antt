@@ -3,7 +3,8 @@ use Rattle.std.specs.Prelude.{◌<◌, ◌≤◌, length, All}
 use Rattle.table_desc.specs.Descriptions.{DescOf}
 use Rattle.table_desc.specs.Tables.{TableOf}
 use Rattle.table_desc.specs.declared.view.Src.{Src}
-use Rattle.table_desc.specs.Sources.{HasAlignedSources, HasEarlierSources, IsAligned, kind_sources, table_width}
+use Rattle.table_desc.specs.Sources.{HasAlignedSources, HasEarlierSources, IsAligned, kind_sources}
+use Rattle.table_desc.specs.Sources.{table_width}
 
 -- a description that is served: at most one feed, at most 64 tables of at most 16 columns, and each
 -- view reads just its own ticks of earlier tables

@@ -1,9 +1,12 @@
 //! The columns of a table: those that words `NAME:TYPE` declare, and those that a view keeps.
 
-ghost use Rattle.std.specs.Prelude.{◌≡◌, ◌<◌, ◌≤◌, ◌++◌, [], ◌∷◌, length, map, option_map, position, IfOk, IfSome, OnOk};
+ghost use Rattle.std.specs.Prelude.{◌≡◌, ◌<◌, ◌≤◌, ◌++◌, [], ◌∷◌, length, map, option_map};
+ghost use Rattle.std.specs.Prelude.{position, IfOk, IfSome, OnOk};
 ghost use Rattle.std.specs.Str.{bytes_eq};
 ghost use Rattle.std.specs.List.{list_any};
-ghost use Rattle.table_desc.specs.Columns.{are_columns, are_different, column_from, find_column, column_of, columns_of, is_colon, is_int, kept_columns, find_time, ty_named};
+ghost use Rattle.table_desc.specs.Columns.{are_columns, are_different, column_from, find_column};
+ghost use Rattle.table_desc.specs.Columns.{column_of, columns_of, is_colon, is_int, kept_columns};
+ghost use Rattle.table_desc.specs.Columns.{find_time, ty_named};
 
 use crate::Column;
 use crate::grammar::names::{is_name, name_text};

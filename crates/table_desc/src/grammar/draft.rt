@@ -1,10 +1,13 @@
 //! A description, read line by line.
 
-ghost use Rattle.std.specs.Prelude.{◌≡◌, ◌<◌, ◌^◌, ◌+◌, [], ◌∷◌, ◌++◌, is_some, length, map, unwrap_or, IfOk, IsTrue, OnErr, OnOk};
+ghost use Rattle.std.specs.Prelude.{◌≡◌, ◌<◌, ◌^◌, ◌+◌, [], ◌∷◌, ◌++◌, is_some, length, map};
+ghost use Rattle.std.specs.Prelude.{unwrap_or, IfOk, IsTrue, OnErr, OnOk};
 ghost use Rattle.std.specs.Bool.{OnTrue};
 ghost use Rattle.table_desc.specs.Served.{IsNextTable};
 ghost use Rattle.table_desc.specs.Names.{is_name};
-ghost use Rattle.table_desc.specs.Grammar.{Described, declared_by, is_free, nothing_described, read_table, with_declared, with_feed, with_line, with_table};
+ghost use Rattle.table_desc.specs.Grammar.{Described, declared_by, is_free, nothing_described};
+ghost use Rattle.table_desc.specs.Grammar.{read_table, with_declared, with_feed, with_line};
+ghost use Rattle.table_desc.specs.Grammar.{with_table};
 
 use crate::grammar::filter::read_filter;
 use crate::grammar::names::{find_table, is_name, name_text};
@@ -110,10 +113,11 @@ fn no_desc(alloc: Global) -> Served
 }
 
 fn declare(alloc: Global, served: &mut Served, words: &[&[u8]]) -> Result<bool, Memory>
-    ensures told { IfOk result (λ told. told ≡
+    ensures exact { IfOk result (λ is_declared. is_declared ≡
         is_some (declared_by served.old.desc (map (λ word. word.now) words.now))) }
     ensures ok { OnOk result (served.new.desc ≡
-        unwrap_or (declared_by served.old.desc (map (λ word. word.now) words.now)) served.old.desc) }
+        unwrap_or (declared_by served.old.desc (map (λ word. word.now) words.now))
+        served.old.desc) }
     ensures err { OnErr result (served.new.desc ≡ served.old.desc) }
 {
     match words {
@@ -129,7 +133,7 @@ fn declare_feed(
     keyword: &[u8],
     name: &[u8],
 ) -> Result<bool, Memory>
-    ensures told { IfOk result (λ told. told ≡
+    ensures exact { IfOk result (λ is_declared. is_declared ≡
         is_some (declared_by served.old.desc (keyword.now ∷ name.now ∷ []))) }
     ensures ok { OnOk result (served.new.desc ≡
         unwrap_or (declared_by served.old.desc (keyword.now ∷ name.now ∷ [])) served.old.desc) }
@@ -153,10 +157,12 @@ fn declare_table(
     name: &[u8],
     words: &[&[u8]],
 ) -> Result<bool, Memory>
-    ensures told { IfOk result (λ told. told ≡ is_some (with_table served.old.desc name.now
-        (read_table served.old.desc keyword.now name.now (map (λ word. word.now) words.now)))) }
+    ensures exact { IfOk result (λ is_declared. is_declared ≡ is_some (
+        with_table served.old.desc name.now (
+        read_table served.old.desc keyword.now name.now (map (λ word. word.now) words.now)))) }
     ensures ok { OnOk result (served.new.desc ≡ unwrap_or (with_table served.old.desc name.now
-        (read_table served.old.desc keyword.now name.now (map (λ word. word.now) words.now))) served.old.desc) }
+        (read_table served.old.desc keyword.now name.now (map (λ word. word.now) words.now)))
+        served.old.desc) }
     ensures err { OnErr result (served.new.desc ≡ served.old.desc) }
 {
     if !is_free(served, name) {

@@ -3,7 +3,9 @@
 ghost use Rattle.std.specs.Prelude.{◌≡◌, ◌≤◌, length, map, IfOk, IsTrue, Some};
 ghost use Rattle.std.specs.Str.{bytes_eq};
 ghost use Rattle.table_desc.specs.Names.{is_name};
-ghost use Rattle.table_desc.specs.Filters.{filter_over, filter_from, read_filter, filter_table, is_filter, is_multiple, is_no_offset, reads_few, unsigned};
+ghost use Rattle.table_desc.specs.Filters.{filter_over, filter_from, read_filter, filter_table};
+ghost use Rattle.table_desc.specs.Filters.{is_filter, is_multiple, is_no_offset, reads_few};
+ghost use Rattle.table_desc.specs.Filters.{unsigned};
 
 use crate::grammar::columns::{are_columns, kept_columns};
 use crate::grammar::names::{find_table, name_text};

@@ -3,7 +3,8 @@
 ghost use Rattle.std.specs.Prelude.{◌≡◌, ◌<◌, length, position, IfOk, IfSome, IsTrue};
 ghost use Rattle.std.specs.Str.{bytes_eq};
 ghost use Rattle.std.specs.List.{list_all, list_any};
-ghost use Rattle.table_desc.specs.Names.{begins_name, find_feed, is_letter, is_name, is_name_byte, reserved, find_table};
+ghost use Rattle.table_desc.specs.Names.{begins_name, find_feed, is_letter, is_name, is_name_byte};
+ghost use Rattle.table_desc.specs.Names.{reserved, find_table};
 
 use crate::grammar::words::is_word;
 use crate::{Feed, Served, Table};

@@ -3,7 +3,8 @@
 ghost use Rattle.std.specs.Prelude.{◌≡◌, map, IfOk, IsTrue};
 ghost use Rattle.std.specs.Str.{bytes_eq};
 ghost use Rattle.table_desc.specs.Names.{is_name};
-ghost use Rattle.table_desc.specs.RawTables.{are_raw_keywords, raw_table_from, read_raw_table, raw_table, read_width};
+ghost use Rattle.table_desc.specs.RawTables.{are_raw_keywords, raw_table_from, read_raw_table};
+ghost use Rattle.table_desc.specs.RawTables.{raw_table, read_width};
 
 use crate::grammar::columns::{are_columns, columns_of, find_time};
 use crate::grammar::names::{find_feed, name_text};

@@ -1,6 +1,7 @@
 //! What a filter keeps: conditions on the columns of its source, and which of these it keeps.
 
-ghost use Rattle.std.specs.Prelude.{◌≡◌, ◌≤◌, ◌++◌, [], ◌∷◌, length, map, option_map, IfOk, OnErr, OnOk};
+ghost use Rattle.std.specs.Prelude.{◌≡◌, ◌≤◌, ◌++◌, [], ◌∷◌, length, map, option_map, IfOk, OnErr};
+ghost use Rattle.std.specs.Prelude.{OnOk};
 ghost use Rattle.table_desc.specs.Columns.{find_columns};
 ghost use Rattle.table_desc.specs.Selections.{cond_of, op_named, read_selection};
 
@@ -24,7 +25,10 @@ impl Model for Selection {
 
     ghost Value = { SelectionOf };
 
-    ghost view = { λ selection. record { conds = selection.conds.items; keep = selection.keep.items } };
+    ghost view = { λ selection. record {
+      conds = selection.conds.items;
+      keep = selection.keep.items;
+    } };
 }
 
 /// The selection that words say of a source with these columns, if they say one:

@@ -3,7 +3,8 @@ use Rattle.std.proofs.lemmas.Grind.{common_steps}
 use Rattle.std.proofs.lemmas.List.{length-drop}
 use Rattle.csv.proofs.RecordFacts.{field-there}
 use Rattle.csv.specs.Records.{fields_of}
-use Rattle.feed_csv.proofs.BodyLemmas.{ReadsCells-push, ReadsCells-none, cells_of-none, field_at-drop}
+use Rattle.feed_csv.proofs.BodyLemmas.{ReadsCells-push, ReadsCells-none, cells_of-none}
+use Rattle.feed_csv.proofs.BodyLemmas.{field_at-drop}
 use Rattle.feed_csv.proofs.body.read_cells.Goals as goal
 
 pub returns-then-len-columns : goal.returns-then-len-columns

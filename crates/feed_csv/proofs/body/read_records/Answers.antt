@@ -2,7 +2,8 @@ use Rattle.std.proofs.Common.{◌≡◌, ◌∙◌, ◌++◌, ◌∷◌, [], Som
 use Rattle.std.proofs.lemmas.Grind.{common_steps}
 use Rattle.csv.specs.Records.{fields_of}
 use Rattle.feed_csv.proofs.CsvRecords.{Yields-start}
-use Rattle.feed_csv.proofs.BodyLemmas.{ReadsRows-none, ReadsRows-empty, ReadsRows-push, ReadsRows-start}
+use Rattle.feed_csv.proofs.BodyLemmas.{ReadsRows-none, ReadsRows-empty, ReadsRows-push}
+use Rattle.feed_csv.proofs.BodyLemmas.{ReadsRows-start}
 use Rattle.feed_csv.proofs.body.read_records.Goals as goal
 
 pub loop-number-init : goal.loop-number-init

@@ -1,5 +1,6 @@
 use Rattle.std.proofs.Common.{ℕ, Ok, not, rules, tests}
-use Rattle.std.proofs.lemmas.Iterator.Consumers.{YieldsList-at, YieldsList-from_filter, map_from_collect}
+use Rattle.std.proofs.lemmas.Iterator.Consumers.{YieldsList-at, YieldsList-from_filter}
+use Rattle.std.proofs.lemmas.Iterator.Consumers.{map_from_collect}
 use Rattle.std.proofs.lemmas.Iterator.Splits.{YieldsList-from_slice_split}
 use Rattle.table_desc.specs.Words.{is_blank, is_empty}
 use Rattle.table_desc.proofs.grammar.words.words_of.Goals as goal
