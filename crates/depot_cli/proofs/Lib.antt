@@ -1,3 +1,4 @@
+pub mod AcceptedLemmas
 pub mod CompleteLemmas
 pub mod FlexibleRows
 pub mod DueLemmas

@@ -7,3 +7,4 @@ pub mod JournalView
 pub mod Texts
 pub mod Replies
 pub mod Runs
+pub mod Acceptance

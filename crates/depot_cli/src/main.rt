@@ -12,7 +12,7 @@ mod script;
 mod tests;
 
 use crate::run::help::{print, text_asked};
-pub use crate::run::laws::{runs_are_complete, serial_is_legal};
+pub use crate::run::laws::{readings_are_accepted, runs_are_complete, serial_is_legal};
 pub use crate::run::run;
 pub use crate::run::status::{DescCause, InputEnd, Status};
 use depot_io::{StdSink, StdSource};

@@ -5,3 +5,4 @@ pub mod ColumnLemmas
 pub mod SelectionLemmas
 pub mod GrammarLemmas
 pub mod ServedLemmas
+pub mod DescribedLemmas

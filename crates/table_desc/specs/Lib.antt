@@ -15,3 +15,4 @@ pub mod RawTables
 pub mod Selections
 pub mod Filters
 pub mod Grammar
+pub mod Acceptance

@@ -2,6 +2,7 @@
 
 ghost use Rattle.std.specs.Prelude.{◌≡◌, ◌<◌, ◌≤◌, Some, length, slice_get};
 ghost use Rattle.table_desc.specs.Served.{IsServed};
+ghost use Rattle.table_desc.specs.Acceptance.{HasServedLines};
 
 use crate::{Desc, Table};
 
@@ -23,3 +24,8 @@ impl Served {
         &self.desc.tables[usize::from(number)]
     }
 }
+
+/// A law: what the lines of a description declare, up to the first bad one, is served.
+pub fn lines_are_served()
+    ensures law { HasServedLines }
+{}

@@ -1,6 +1,7 @@
 //! Laws of the definitions: facts of every script. Each is the contract of a function that does
 //! nothing, so that it is proved, and can be cited.
 
+ghost use Rattle.depot_cli.specs.Acceptance.{HasAcceptedReadings};
 ghost use Rattle.depot_cli.specs.SerialJournal.{HasLegalSerial};
 ghost use Rattle.depot_cli.specs.Runs.{HasCompleteRuns};
 
@@ -14,4 +15,10 @@ pub fn serial_is_legal()
 /// leaves; or there was no memory.
 pub fn runs_are_complete()
     ensures law { HasCompleteRuns }
+{}
+
+/// A law: if the reading of an input serves, its description is served, and the journal of its
+/// items fits that. So the laws of descriptions and of legal journals speak of its run.
+pub fn readings_are_accepted()
+    ensures law { HasAcceptedReadings }
 {}

@@ -1,0 +1,17 @@
+-- What a reading that serves has, so that the laws of descriptions and journals speak of its run.
+use Rattle.std.specs.Prelude.{ℕ, ◌≡◌, List, []}
+use Rattle.table_desc.specs.Descriptions.{DescOf}
+use Rattle.table_desc.specs.Served.{IsServed}
+use Rattle.view_meaning.specs.Journal.{FitsJournal}
+use Rattle.depot_cli.specs.Reading.{Script, Serving, Session, reading}
+use Rattle.depot_cli.specs.SerialJournal.{serial}
+
+-- the description is served, and the journal that the items of the session make fits it
+pub record IsAccepted (desc : DescOf) (session : Session) : Type 0 where
+  pub served : IsServed desc
+  pub fits : FitsJournal desc (serial desc [] session.items)
+
+-- so it is with each reading that serves
+abbrev pub HasAcceptedReadings : Type 0
+HasAcceptedReadings = (input : List ℕ) (desc : DescOf) (session : Session)
+    → reading input ≡ Serving desc session → IsAccepted desc session
