@@ -27,15 +27,13 @@ pub HasRoomFor-append : (room : Option ℕ) (first second : ℕ)
 HasRoomFor-append None first second fits = absurd fits
 HasRoomFor-append (Some room) first second fits = omega arith
 
--- the rest of some bytes that fit, of which `at` were put, fits the room that is left
-rest-fits : (start now : Option ℕ) (at : ℕ) (bytes rest : List ℕ)
-    → (HasRoomFor start (length bytes) → now ≡ room_after start at)
-    → at + length rest ≡ length bytes
-    → HasRoomFor start (length bytes) → HasRoomFor now (length rest)
-rest-fits start now at bytes rest before whole fits =
-    subst (λ (room : Option ℕ). HasRoomFor room (length rest)) (sym (before fits))
-    (HasRoomFor-append start at (length rest)
-    (subst (λ (count : ℕ). HasRoomFor start count) (sym whole) fits))
+-- if a sink began with room for all, the next bytes fit after those that were put
+pub HasRoomFor-step : (start now : Option ℕ) (put next all : ℕ)
+    → now ≡ room_after start put → put + next ≤ all
+    → HasRoomFor start all → HasRoomFor now next
+HasRoomFor-step start now put next all is_now at_most fits =
+    subst (λ (room : Option ℕ). HasRoomFor room next) (sym is_now)
+    (HasRoomFor-append start put next (HasRoomFor-le start (put + next) all at_most fits))
 
 -- one more put of bytes that fit takes the rest of them
 pub room_after-step : {E : Type 0} (start now next : Option ℕ) (at count : ℕ) (bytes rest : List ℕ)
@@ -44,7 +42,8 @@ pub room_after-step : {E : Type 0} (start now next : Option ℕ) (at count : ℕ
     → TakesWithin {E = E} now next rest (Ok count)
     → HasRoomFor start (length bytes) → next ≡ room_after start (at + count)
 room_after-step start now next at count bytes rest before whole takes fits =
-    let took = takes (rest-fits start now at bytes rest before whole fits) in
+    let took = takes (HasRoomFor-step start now at (length rest) (length bytes) (before fits)
+    (omega arith) fits) in
     let all : length rest ≡ count = cc in
     took.1 ∙ ap (λ (room : Option ℕ). room_after room (length rest)) (before fits)
     ∙ room_after-append start at (length rest)
@@ -58,5 +57,6 @@ pub TakesWithin-none : {E : Type 0} (start now next : Option ℕ) (at : ℕ) (by
     → TakesWithin {E = E} now next rest (Err fault)
     → HasRoomFor start (length bytes) → ⊥
 TakesWithin-none start now next at bytes rest fault before whole takes fits =
-    let took = takes (rest-fits start now at bytes rest before whole fits) in
+    let took = takes (HasRoomFor-step start now at (length rest) (length bytes) (before fits)
+    (omega arith) fits) in
     cc

@@ -243,21 +243,21 @@ impl<S: Source> LineReader<S> {
 
     /// The last line taken, without its LF and one CR before it.
     pub fn line(&self) -> &[u8]
-        ensures { result.now ≡ self.now.line }
+        ensures exact { result.now ≡ self.now.line }
     {
         &self.line
     }
 
     /// How many bytes were taken off the source, of lines and bodies together.
     pub fn taken(&self) -> u64
-        ensures { result ≡ self.now.taken }
+        ensures exact { result ≡ self.now.taken }
     {
         self.taken
     }
 
     /// Gives the source back, as it stands after the last byte taken.
     pub fn into_source(self) -> S
-        ensures { result ≡ self.source }
+        ensures exact { result ≡ self.source }
     {
         let LineReader {
             source,

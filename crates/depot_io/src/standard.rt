@@ -16,6 +16,7 @@ pub struct StdSource<'a, R: Input> {
 
 impl<'a, R: Input> StdSource<'a, R> {
     pub fn new(rt: &'a R) -> StdSource<'a, R>
+        // What is left is what a reader of the runtime has left: nothing was taken or made up.
         ensures left { (reader : R.Reader) ×
             (⟦<StdSource<'static, R> as Source>⟧.bytes_left result ≡ R.Reader.remaining reader) }
         ensures faults { ⟦<StdSource<'static, R> as Source>⟧.faults result ≡ 0 }
