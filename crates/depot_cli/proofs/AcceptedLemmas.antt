@@ -14,7 +14,7 @@ use Rattle.table_desc.specs.Descriptions.{DescOf}
 use Rattle.table_desc.specs.Names.{find_feed}
 use Rattle.table_desc.specs.Words.{begins_comment, is_empty, words}
 use Rattle.table_desc.specs.Grammar.{Described, described}
-use Rattle.table_desc.proofs.DescribedLemmas.{IsServed-described}
+use Rattle.table_desc.proofs.DescribedLemmas.{described_is_served}
 use Rattle.view_meaning.specs.declared.journal.Entry.{Entry}
 use Rattle.view_meaning.specs.declared.journal.Entry.TheVariants as entry
 use Rattle.view_meaning.specs.declared.request.Item.{Item}
@@ -235,7 +235,7 @@ FitsJournal-serial desc journal (item ∷ items) fits each =
 IsAccepted-session : (lines : List (List ℕ)) (taken : ℕ) (rest : List ℕ)
     → IsAccepted (described lines).desc (session (described lines).desc taken rest)
 IsAccepted-session lines taken rest = record {
-  served = IsServed-described lines;
+  served = described_is_served lines;
   fits = FitsJournal-serial (described lines).desc [] _ (All-nil _)
       (FitsWork-session_from (described lines).desc taken (suc (length rest)) 0 rest);
 }

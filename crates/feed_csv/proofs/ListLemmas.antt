@@ -1,7 +1,7 @@
 -- General facts on lists and options.
-use Rattle.std.proofs.Common.{◌≡◌, ◌+◌, ◌<◌, ◌∷◌, zero, suc, List, Option, Some, None, Ok, Err}
-use Rattle.std.proofs.Common.{length, refl, ap, arith}
-use Rattle.std.specs.Prelude.{Result, option_map, slice_index_or}
+use Rattle.std.proofs.Common.{◌≡◌, ◌+◌, ◌<◌, ◌∷◌, zero, suc, List, Some, Ok, Err}
+use Rattle.std.proofs.Common.{length, ap, arith}
+use Rattle.std.specs.Prelude.{Result, slice_index_or}
 use Rattle.std.specs.List.{AllAdjacentBelow}
 use Rattle.std.specs.Result.{result_ok}
 use Rattle.std.proofs.lemmas.Option.{same_Some}
@@ -14,12 +14,6 @@ AllAdjacentBelow-cons R x xs first rest zero d within = first d (omega arith)
 AllAdjacentBelow-cons R x xs first rest (suc k) d within =
     let next : suc k + 1 ≡ suc (k + 1) = omega arith in
     rw next (rest k d (omega arith))
-
--- what a map answers comes of something that is there
-pub option_map-some : {A B P : Type 0} (f : A → B) (o : Option A) (y : B)
-    → option_map f o ≡ Some y → ((x : A) → o ≡ Some x → f x ≡ y → P) → P
-option_map-some f None y there go = absurd cc
-option_map-some f (Some x) y there go = go x refl (same_Some _ _ there)
 
 -- a value that is left of a result is its Ok
 pub result_ok-some : {X E : Type 0} (result : Result X E) (x : X) → result_ok result ≡ Some x

@@ -18,11 +18,12 @@ use Rattle.table_desc.specs.Tables.{TableOf}
 use Rattle.table_desc.specs.KindValues.{KindOf, Raw, Filter, Group, Join}
 use Rattle.table_desc.specs.Time.{END}
 use Rattle.table_desc.proofs.FrontLemmas.{with_first-some}
+use Rattle.table_desc.proofs.ListLemmas.{option_map-some}
 use Rattle.view_meaning.specs.Journal.{FitsRow, IsRawOf, IsRowOf}
 use Rattle.feed_csv.specs.Bodies.{cells_of, find_raw_table, is_in_time, is_raw_of, records_of}
 use Rattle.feed_csv.specs.Bodies.{row_of, rows_from, table_cells, timed}
 use Rattle.feed_csv.specs.Rows.{RowsFit}
-use Rattle.feed_csv.proofs.ListLemmas.{AllAdjacentBelow-cons, option_map-some, result_ok-some}
+use Rattle.feed_csv.proofs.ListLemmas.{AllAdjacentBelow-cons, result_ok-some}
 
 -- cells of their columns' types
 record AreCellsOf (columns : List Column) (cells : List Cell) : Type 0 where

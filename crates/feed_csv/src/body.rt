@@ -110,7 +110,7 @@ fn read_row(
 /// The number of the feed's raw table with this name.
 fn find_raw_table(served: &Served, feed: u16, name: &[u8]) -> Option<u16>
     ensures exact { result ≡ find_raw_table served.now.desc feed name.now }
-    ensures there { IfSome result (λ table. table < length served.now.desc.tables) }
+    ensures within { IfSome result (λ table. table < length served.now.desc.tables) }
 {
     match place_of_raw_table(&served.desc.tables, feed, name) {
         Some(table) => Some(table as u16),
@@ -121,7 +121,7 @@ fn find_raw_table(served: &Served, feed: u16, name: &[u8]) -> Option<u16>
 fn place_of_raw_table(tables: &[Table], feed: u16, name: &[u8]) -> Option<usize>
     ensures exact { result ≡
         position (λ table. bytes_eq table.name name.now && is_raw_of feed table.kind) tables.now }
-    ensures there { IfSome result (λ table. table < length tables.now) }
+    ensures within { IfSome result (λ table. table < length tables.now) }
 {
     tables.iter().position(|table| is_word(table.name.as_bytes(), name)
         && is_raw_of(feed, &table.kind))

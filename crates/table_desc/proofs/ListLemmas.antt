@@ -1,7 +1,8 @@
 -- General facts on lists and options.
 use Rattle.std.proofs.Common.{◌≡◌, ℕ, zero, suc, ◌<◌, ◌++◌, List, [], ◌∷◌, Option, Some, None}
 use Rattle.std.proofs.Common.{Bool, true, false, length, subst, refl, arith, rules}
-use Rattle.std.specs.Prelude.{slice_get, if◌then◌else◌}
+use Rattle.std.specs.Prelude.{option_map, slice_get, if◌then◌else◌}
+use Rattle.std.proofs.lemmas.Option.{same_Some}
 
 -- what is so of each place of a list, and of one more element at its end, is so of each place
 pub each_place-push : {X : Type 0} (P : ℕ → X → Type 0) (xs : List X) (last : X)
@@ -27,3 +28,9 @@ pub if-some : {X : Type 0} (test : Bool) (found : Option X) (x : X)
     → (if test then found else None) ≡ Some x → found ≡ Some x
 if-some true found x there = there
 if-some false found x there = absurd cc
+
+-- what a map answers comes of something that is there
+pub option_map-some : {A B P : Type 0} (f : A → B) (o : Option A) (y : B)
+    → option_map f o ≡ Some y → ((x : A) → o ≡ Some x → f x ≡ y → P) → P
+option_map-some f None y there go = absurd cc
+option_map-some f (Some x) y there go = go x refl (same_Some _ _ there)

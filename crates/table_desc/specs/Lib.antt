@@ -15,4 +15,3 @@ pub mod RawTables
 pub mod Selections
 pub mod Filters
 pub mod Grammar
-pub mod Acceptance

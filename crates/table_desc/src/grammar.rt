@@ -12,7 +12,7 @@ mod raw_table;
 mod selection;
 mod words;
 
-pub use draft::Draft;
+pub use draft::{Draft, described_is_served};
 pub use field::field_cell;
 pub use names::{find_feed, find_table, is_name};
 pub use words::{begins_comment, is_go, is_skipped, is_word, words_of};

@@ -2,7 +2,6 @@
 
 ghost use Rattle.std.specs.Prelude.{◌≡◌, ◌<◌, ◌≤◌, Some, length, slice_get};
 ghost use Rattle.table_desc.specs.Served.{IsServed};
-ghost use Rattle.table_desc.specs.Acceptance.{HasServedLines};
 
 use crate::{Desc, Table};
 
@@ -17,15 +16,10 @@ pub struct Served {
 impl Served {
     /// The table with this number.
     pub fn table(&self, number: u16) -> &Table
-        requires there { number < length self.now.desc.tables }
+        requires within { number < length self.now.desc.tables }
         ensures exact { slice_get self.now.desc.tables number ≡ Some result.now }
         ensures few { length result.now.columns ≤ 16 }
     {
         &self.desc.tables[usize::from(number)]
     }
 }
-
-/// A law: what the lines of a description declare, up to the first bad one, is served.
-pub fn lines_are_served()
-    ensures law { HasServedLines }
-{}

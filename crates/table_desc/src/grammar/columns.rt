@@ -44,7 +44,7 @@ fn column_of(alloc: Global, word: &[u8]) -> Result<Option<Column>, Memory>
 
 fn colon_in(word: &[u8]) -> Option<usize>
     ensures exact { result ≡ position is_colon word.now }
-    ensures there { IfSome result (λ colon. colon < length word.now) }
+    ensures within { IfSome result (λ colon. colon < length word.now) }
 {
     word.iter().position(|byte| *byte == b':')
 }
@@ -131,7 +131,7 @@ fn copy_column(alloc: Global, column: &Column) -> Result<Column, Memory>
 pub fn find_column(columns: &[Column], name: &[u8]) -> Option<u16>
     requires few { length columns.now ≤ 16 }
     ensures exact { result ≡ find_column columns.now name.now }
-    ensures there { IfSome result (λ column. column < length columns.now) }
+    ensures within { IfSome result (λ column. column < length columns.now) }
 {
     match place_of_column(columns, name) {
         Some(column) => Some(column as u16),
@@ -141,7 +141,7 @@ pub fn find_column(columns: &[Column], name: &[u8]) -> Option<u16>
 
 fn place_of_column(columns: &[Column], name: &[u8]) -> Option<usize>
     ensures exact { result ≡ position (λ column. bytes_eq column.name name.now) columns.now }
-    ensures there { IfSome result (λ column. column < length columns.now) }
+    ensures within { IfSome result (λ column. column < length columns.now) }
 {
     columns
         .iter()
@@ -151,7 +151,7 @@ fn place_of_column(columns: &[Column], name: &[u8]) -> Option<usize>
 /// The number of the int column with this name.
 pub fn find_time(columns: &[Column], name: &[u8]) -> Option<usize>
     ensures exact { result ≡ find_time columns.now name.now }
-    ensures there { IfSome result (λ time. time < length columns.now) }
+    ensures within { IfSome result (λ time. time < length columns.now) }
 {
     columns.iter().position(|column| is_word(column.name.as_bytes(), name) && is_int(column.ty))
 }

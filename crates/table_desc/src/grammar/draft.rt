@@ -1,13 +1,13 @@
 //! A description, read line by line.
 
-ghost use Rattle.std.specs.Prelude.{◌≡◌, ◌<◌, ◌^◌, ◌+◌, [], ◌∷◌, ◌++◌, is_some, length, map};
-ghost use Rattle.std.specs.Prelude.{unwrap_or, IfOk, IsTrue, OnErr, OnOk};
+ghost use Rattle.std.specs.Prelude.{ℕ, ◌≡◌, ◌<◌, ◌^◌, ◌+◌, List, [], ◌∷◌, ◌++◌, is_some, length};
+ghost use Rattle.std.specs.Prelude.{map, unwrap_or, IfOk, IsTrue, OnErr, OnOk};
 ghost use Rattle.std.specs.Bool.{OnTrue};
-ghost use Rattle.table_desc.specs.Served.{IsNextTable};
+ghost use Rattle.table_desc.specs.Served.{IsNextTable, IsServed};
 ghost use Rattle.table_desc.specs.Names.{is_name};
-ghost use Rattle.table_desc.specs.Grammar.{Described, declared_by, is_free, nothing_described};
-ghost use Rattle.table_desc.specs.Grammar.{read_table, with_declared, with_feed, with_line};
-ghost use Rattle.table_desc.specs.Grammar.{with_table};
+ghost use Rattle.table_desc.specs.Grammar.{Described, declared_by, described, is_free};
+ghost use Rattle.table_desc.specs.Grammar.{nothing_described, read_table, with_declared};
+ghost use Rattle.table_desc.specs.Grammar.{with_feed, with_line, with_table};
 
 use crate::grammar::filter::read_filter;
 use crate::grammar::names::{find_table, is_name, name_text};
@@ -214,3 +214,8 @@ fn is_free(served: &Served, name: &[u8]) -> bool
 {
     is_name(name) && find_table(served, name).is_none() && served.desc.tables.len() < MOST_TABLES
 }
+
+/// A law: what lines declare is a description that is served.
+pub fn described_is_served()
+    ensures law { (lines : List (List ℕ)) → IsServed (described lines).desc }
+{}

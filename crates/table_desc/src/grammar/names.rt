@@ -81,7 +81,7 @@ pub fn find_feed(served: &Served, name: &[u8]) -> Option<u16>
 
 fn place_of_feed(feeds: &[Feed], name: &[u8]) -> Option<usize>
     ensures exact { result ≡ position (λ feed. bytes_eq feed.name name.now) feeds.now }
-    ensures there { IfSome result (λ feed. feed < length feeds.now) }
+    ensures within { IfSome result (λ feed. feed < length feeds.now) }
 {
     feeds
         .iter()
@@ -91,7 +91,7 @@ fn place_of_feed(feeds: &[Feed], name: &[u8]) -> Option<usize>
 /// The number of the table with this name.
 pub fn find_table(served: &Served, name: &[u8]) -> Option<u16>
     ensures exact { result ≡ find_table served.now.desc name.now }
-    ensures there { IfSome result (λ table. table < length served.now.desc.tables) }
+    ensures within { IfSome result (λ table. table < length served.now.desc.tables) }
 {
     match place_of_table(&served.desc.tables, name) {
         Some(table) => Some(table as u16),
@@ -101,7 +101,7 @@ pub fn find_table(served: &Served, name: &[u8]) -> Option<u16>
 
 fn place_of_table(tables: &[Table], name: &[u8]) -> Option<usize>
     ensures exact { result ≡ position (λ table. bytes_eq table.name name.now) tables.now }
-    ensures there { IfSome result (λ table. table < length tables.now) }
+    ensures within { IfSome result (λ table. table < length tables.now) }
 {
     tables
         .iter()

@@ -28,7 +28,7 @@ pub returns-in_err-take_body-in-Body-clause-answer :
     goal.returns-in_err-take_body-in-Body-clause-answer
 returns-in_err-take_body-in-Body-clause-answer g c =
     let is_body = order_of-read c.args.served.now.desc c.take_line.new.reader.line c.line.result.now
-    c.in_ok-read_order.field-0 (order.Body c.in-Body.head c.in-Body.size) c.line.ensures
+    c.in_ok-read_order.field-0 (order.Body c.in-Body.head c.in-Body.size) c.line.ensures.exact
     c.in_ok-read_order.ensures.exact c.in-Body.is in
     rw (Err-passed c.from_residual-in_err-take_body-in-Body.result
     c.in_err-take_body-in-Body.field-0.0 c.from_residual-in_err-take_body-in-Body.ensures.1)
@@ -46,7 +46,7 @@ pub returns-in_ok-body_work-in-Body-clause-answer :
     goal.returns-in_ok-body_work-in-Body-clause-answer
 returns-in_ok-body_work-in-Body-clause-answer g c =
     let is_body = order_of-read c.args.served.now.desc c.take_line.new.reader.line c.line.result.now
-    c.in_ok-read_order.field-0 (order.Body c.in-Body.head c.in-Body.size) c.line.ensures
+    c.in_ok-read_order.field-0 (order.Body c.in-Body.head c.in-Body.size) c.line.ensures.exact
     c.in_ok-read_order.ensures.exact c.in-Body.is in
     IsStep-body c.args.served.now.desc c.args.base c.args.reader.now.taken
     c.take_line.new.reader.taken c.take_body.new.reader.taken

@@ -21,11 +21,11 @@ pub lines-preserved : goal.lines-preserved
 lines-preserved g c =
     let there = c.if-not-branch.false in
     let goes : is_go (words c.take_line.new.reader.line) ≡ false =
-    ap (λ (line : List ℕ). is_go (words line)) (sym c.line.ensures)
+    ap (λ (line : List ℕ). is_go (words line)) (sym c.line.ensures.exact)
     ∙ sym c.in_ok-is_go_line.ensures ∙ c.if-branch.false in
     let next : c.add_line.new.self ≡ with_line c.lines.draft c.take_line.new.reader.line =
     c.in_ok-add_line.ensures.ok
-    ∙ ap (λ (line : List ℕ). with_line c.lines.draft line) c.line-in-lines.ensures in
+    ∙ ap (λ (line : List ℕ). with_line c.lines.draft line) c.line-in-lines.ensures.exact in
     let counted = lines-with_line c.lines.draft c.take_line.new.reader.line in
     let count : c.add_line.new.self.lines ≡ c.lines.draft.lines + 1 =
     ap (λ (before : Described). before.lines) next ∙ counted in
@@ -52,7 +52,7 @@ returns-in_err-take_line-clause-answer g c =
 pub returns-then-branch-clause-answer : goal.returns-then-branch-clause-answer
 returns-then-branch-clause-answer g c =
     let goes : is_go (words c.take_line.new.reader.line) ≡ true =
-    ap (λ (line : List ℕ). is_go (words line)) (sym c.line.ensures)
+    ap (λ (line : List ℕ). is_go (words line)) (sym c.line.ensures.exact)
     ∙ sym c.in_ok-is_go_line.ensures ∙ c.if-branch.true in
     IfSome_then _ c.lines.invariant.opened (λ bytes opened.
     HasOpened-go (opening bytes) c.lines.draft c.lines.reader.taken c.take_line.new.reader.taken
