@@ -1,20 +1,32 @@
 # What there is to run. `rt` is the toolchain's command; README.md names its version.
 
-.PHONY: demo ci program bench
+.PHONY: needs-rt demo program ci bench
 
-# Builds `trial`, runs it on the example, and prints the replies: about a minute.
-demo:
+PROGRAM = $(CURDIR)/crates/depot_cli/out/depot_cli
+
+# Says that the toolchain is missing, if it is.
+needs-rt:
+	@examples/needs_rt.sh
+
+# Runs `trial` on each example and compares the replies: seconds with a proved program that lies
+# ready, and else about half a minute. It proves nothing.
+demo: needs-rt
 	@examples/demo.sh
 
+# Proves the program, keeps it, and runs it on its stored input.
+program: needs-rt
+	@echo "Proving takes 5 to 15 minutes the first time, and a few seconds if nothing has changed."
+	cd crates/depot_cli && rt run -- . trial < stdin
+	@echo
+	@echo "The program: $(PROGRAM)"
+	@echo "To have it on the PATH as depot:"
+	@echo "    mkdir -p ~/.local/bin && ln -sf $(PROGRAM) ~/.local/bin/depot"
+
 # The gate: all proofs, must-fail edits, tests and programs.
-ci:
+ci: needs-rt
 	.ci/run
 
-# Proves and builds the program, and runs it on its stored input.
-program:
-	cd crates/depot_cli && rt run -- . trial < stdin
-
-# What loading costs, against the bars of docs/PERFORMANCE.md. It wants Python 3 and valgrind.
-# (How drains grow, which has no bar, is told by bench/draining.py.)
-bench:
+# What loading costs, against the bars of docs/PERFORMANCE.md. It wants Python 3 and valgrind, and
+# the proved program. (How drains grow, which has no bar, is told by bench/draining.py.)
+bench: needs-rt
 	python3 bench/loading.py

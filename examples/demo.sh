@@ -1,40 +1,79 @@
 #!/bin/sh
-# Runs `trial` on the example and prints the replies. They must be those of hosts.answer, and the
-# exit code 1, since one line of the example is refused.
+# Runs `trial` on every example and compares the replies and the exit code with those that are
+# wanted. It prints the first example with its replies.
 #
-# The proved program is taken where `rt run` or `rt ci` left it and no source is newer. Else the
-# program is built without proof, which takes about a minute.
+# The proved program is taken if it lies ready and no source is newer. Else the program is built
+# once, without proof, and run on all of the examples: that takes about half a minute.
 
-cd "$(dirname "$0")/.." || exit 2
-top=$(pwd)
-program=$top/crates/depot_cli/out/depot_cli
-input=$top/examples/hosts.depot
-wanted=$top/examples/hosts.answer
-folder=$(mktemp -d) || exit 2
-trap 'rm -rf "$folder"' EXIT
+examples="first story hosts temperatures"
 
-newer_sources() {
-    find "$top/crates" -name out -prune -o -name '*.rt' -newer "$program" -print
+# `hosts` has a line that is refused.
+wanted_code() {
+    case $1 in
+        hosts) echo 1 ;;
+        *) echo 0 ;;
+    esac
 }
 
-echo "input: examples/hosts.depot"
-if [ -x "$program" ] && [ -z "$(newer_sources)" ]; then
-    echo "program: the proved one, crates/depot_cli/out/depot_cli"
-    "$program" . trial < "$input" > "$folder/replies" 2> "$folder/log"
-    code=$?
+cd "$(dirname "$0")" || exit 2
+here=$(pwd)
+folder=$(mktemp -d) || exit 2
+trap 'rm -rf "$folder"' EXIT
+mkdir "$folder/scripts" || exit 2
+cp first.depot story.depot hosts.depot "$folder/scripts/" || exit 2
+./from_csv.sh temperatures.csv > "$folder/scripts/temperatures.depot" || exit 2
+
+# Each example's replies go to `NAME.replies`, its exit code to `NAME.code`.
+run_program() {
+    for name in $examples; do
+        "$1" . trial < "$folder/scripts/$name.depot" > "$folder/$name.replies" 2>> "$folder/log"
+        echo $? > "$folder/$name.code"
+    done
+}
+
+# `rt try` writes a line `== NAME` before the replies to each script, and one that begins with
+# `case=NAME` and tells the exit code to standard error.
+try_program() {
+    cd "$here/../crates/depot_cli" || exit 2
+    rt try --cases "$folder/scripts" -- . trial > "$folder/all" 2> "$folder/log"
+    cd "$here" || exit 2
+    for name in $examples; do
+        awk -v name="== $name.depot" '/^== / { on = ($0 == name); next } on' "$folder/all" \
+            > "$folder/$name.replies"
+        sed -n "s/^case=$name.depot .*status=\([0-9]*\) .*/\1/p" "$folder/log" > "$folder/$name.code"
+    done
+}
+
+program=$(./program.sh)
+if [ -n "$program" ]; then
+    echo "The proved program: $program"
+    run_program "$program"
 else
-    echo "program: built without proof now, which takes about a minute"
-    cd "$top/crates/depot_cli" || exit 2
-    rt try -- . trial < "$input" > "$folder/replies" 2> "$folder/log"
-    code=$?
+    ./needs_rt.sh || exit 1
+    echo "No proved program lies ready: it is built now without proof, in about half a minute."
+    try_program
 fi
 
-echo "replies:"
-sed 's/^/    /' "$folder/replies"
-if [ "$code" -ne 1 ] || ! cmp -s "$folder/replies" "$wanted"; then
-    echo "exit code $code. Wanted are code 1 and the replies of examples/hosts.answer:"
-    diff "$wanted" "$folder/replies"
+echo
+echo "The script, examples/first.depot:"
+sed 's/^/    /' first.depot
+echo "Its replies:"
+sed 's/^/    /' "$folder/first.replies"
+echo
+
+failed=0
+for name in $examples; do
+    code=$(cat "$folder/$name.code")
+    if [ "$code" = "$(wanted_code "$name")" ] && cmp -s "$name.answer" "$folder/$name.replies"; then
+        echo "$name: exit code $code and the replies of examples/$name.answer, as wanted"
+    else
+        echo "$name: exit code $code, wanted $(wanted_code "$name"); the replies differ so:"
+        diff "$name.answer" "$folder/$name.replies"
+        failed=1
+    fi
+done
+./from_csv.sh temperatures.csv "$folder/temperatures.replies" || failed=1
+if [ "$failed" -ne 0 ]; then
     cat "$folder/log"
-    exit 1
 fi
-echo "exit code 1: a line was refused. All is as wanted in examples/hosts.answer."
+exit "$failed"
