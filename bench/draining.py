@@ -25,7 +25,7 @@ go
 
 
 def session_of(partitions, drains, rows):
-    """Deliveries of so many rows, spread over the partitions, and a drain behind each."""
+    """Deliveries of so many rows, spread over the partitions, and a drain after each."""
     parts = [DESCRIPTION]
     for delivery in range(drains):
         lines = []

@@ -8,8 +8,8 @@ It writes a session of 200 deliveries of 200 rows each, and runs the proved prog
 - without valgrind, for the most memory that was resident. The bar is six times the bytes of the
   bodies, with start-up counted in.
 
-Bars are for the default size. Exit status: 0 where both are met, 1 where one is not, 2 where
-nothing was measured. See docs/PERFORMANCE.md.
+Bars are for the default size. Exit status: 0 if both are met, 1 if one is not, 2 if nothing was
+measured. See docs/PERFORMANCE.md.
 """
 
 import argparse
