@@ -5,14 +5,18 @@
 #   examples/from_csv.sh FILE            writes the script to standard output
 #   examples/from_csv.sh FILE REPLIES    checks the replies that the script got
 #
-# The file has a header line, and its columns are those of the table below, in the same order. Its
-# times are whole seconds since 1970. For a file of your own change the description and the queries,
-# the names FEED and TABLE with them. A field may stand in quotes, but no line end may stand inside.
+# The file has a header line, no empty lines, and the columns of the table below, in the same order.
+# Its times are whole seconds since 1970. A field may stand in quotes, with no line end inside. For a
+# file of your own change the description and the queries, and the names FEED and TABLE with them.
 set -eu
 export LC_ALL=C
 FEED=sensors
 TABLE=temps
 
+if [ $# -lt 1 ] || [ ! -r "$1" ]; then
+    echo "usage: from_csv.sh FILE [REPLIES], and FILE has to be there" >&2
+    exit 2
+fi
 file=$1
 rows=$(tail -n +2 "$file" | grep -c '') || true
 
