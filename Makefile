@@ -20,7 +20,9 @@ program: needs-rt
 	@echo
 	@echo "The program: $(PROGRAM)"
 	@echo "To have it on the PATH as depot:"
-	@echo "    mkdir -p ~/.local/bin && ln -sf $(PROGRAM) ~/.local/bin/depot"
+	@echo "    mkdir -p ~/.local/bin && ln -sf '$(PROGRAM)' ~/.local/bin/depot"
+	@echo "or, for this shell only:"
+	@echo "    alias depot='$(PROGRAM)'"
 
 # The gate: all proofs, must-fail edits, tests and programs.
 ci: needs-rt

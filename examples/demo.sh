@@ -73,6 +73,16 @@ for name in $examples; do
     fi
 done
 ./from_csv.sh temperatures.csv "$folder/temperatures.replies" || failed=1
+
+# The README shows the first example and its replies.
+awk '/^examples\/trial.sh <</ { on = 1; next } /^END$/ { on = 0 } on' ../README.md > "$folder/shown"
+awk '/^The replies:/ { on = 1; next } /^- / { on = 0 } on && !/^(```.*)?$/' ../README.md \
+    > "$folder/shown.answer"
+if ! cmp -s first.depot "$folder/shown" || ! cmp -s first.answer "$folder/shown.answer"; then
+    echo "README.md shows another script than examples/first.depot, or other replies"
+    failed=1
+fi
+
 if [ "$failed" -ne 0 ]; then
     cat "$folder/log"
 fi
