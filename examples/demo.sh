@@ -37,6 +37,11 @@ try_program() {
     cd "$here/../crates/depot_cli" || exit 2
     rt try --cases "$folder/scripts" -- . trial > "$folder/all" 2> "$folder/log"
     cd "$here" || exit 2
+    if ! grep -q '^cases=' "$folder/log"; then
+        echo "the program was not built:"
+        cat "$folder/log"
+        exit 1
+    fi
     for name in $examples; do
         awk -v name="== $name.depot" '/^== / { on = ($0 == name); next } on' "$folder/all" \
             > "$folder/$name.replies"
