@@ -1,6 +1,7 @@
 -- A reading that serves is accepted: `IsAccepted-reading`. Each line asks for what fits the
 -- description, so each step does, and so does the journal.
-use Rattle.std.proofs.Common.{◌≡◌, ℕ, zero, suc, ◌+◌, ◌<◌, ◌≤◌, ◌^◌, ◌++◌, List, [], ◌∷◌, length, Bool, true, false, refl, sym, ap, ◌∙◌, subst, inl, inr, arith}
+use Rattle.std.proofs.Common.{◌≡◌, ℕ, zero, suc, ◌+◌, ◌<◌, ◌≤◌, ◌^◌, ◌++◌, List, [], ◌∷◌, length}
+use Rattle.std.proofs.Common.{Bool, true, false, refl, sym, ap, ◌∙◌, subst, inl, inr, arith}
 use Rattle.std.specs.Prelude.{Option, Some, None, All, ⊤, if◌then◌else◌, nat_lt, codes, fold, ◌&&◌}
 use Rattle.std.specs.Str.{bytes_eq}
 use Rattle.std.proofs.lemmas.Bool.{cases_Bool, ltb-true}
@@ -27,8 +28,14 @@ use Rattle.depot_cli.specs.declared.script.order.Order.{Order}
 use Rattle.depot_cli.specs.declared.script.order.Order.TheVariants as order
 use Rattle.depot_cli.specs.declared.script.work.Work.{Work}
 use Rattle.depot_cli.specs.declared.script.work.Work.TheVariants as work
-use Rattle.depot_cli.specs.Orders.{asked, deliver_order, head_of, item_read, number_below, order_of, order_of_words, query_order, sized}
-use Rattle.depot_cli.specs.Reading.{NextLine, NoLine, Unreadable, Line, NextBody, Unfinished, Body, OpeningEnd, Go, Broken, Script, Serving, Session, Step, Ends, Does, body_due, body_step, body_work, line_due, line_step, load_of, next_body, next_line, opening, order_step, reading, script_at, script_behind, session, session_at, session_from, step_of}
+use Rattle.depot_cli.specs.Orders.{asked, deliver_order, head_of, item_read, number_below, order_of}
+use Rattle.depot_cli.specs.Orders.{order_of_words, query_order, sized}
+use Rattle.depot_cli.specs.Reading.{NextLine, NoLine, Unreadable, Line, NextBody, Unfinished, Body}
+use Rattle.depot_cli.specs.Reading.{OpeningEnd, Go, Broken, Script, Serving, Session, Step, Ends}
+use Rattle.depot_cli.specs.Reading.{Does, body_due, body_step, body_work, line_due, line_step}
+use Rattle.depot_cli.specs.Reading.{load_of, next_body, next_line, opening, order_step, reading}
+use Rattle.depot_cli.specs.Reading.{script_at, script_after, session, session_at, session_from}
+use Rattle.depot_cli.specs.Reading.{step_of}
 use Rattle.depot_cli.specs.SerialJournal.{journal_after, serial}
 use Rattle.depot_cli.specs.Acceptance.{HasAcceptedReadings, IsAccepted}
 
@@ -190,7 +197,7 @@ FitsStep-line_step desc base taken bytes (Line line rest) =
     FitsStep-order_step desc base (line_due bytes) _ (order_of desc line) rest
     (FitsOrder-words desc (words line))
 
--- so do the items that begin with a step, where the others fit
+-- so do the items that begin with a step, if the others fit
 FitsWork-session_at : (desc : DescOf) (more : ℕ → List ℕ → Session) (step : Step)
     → ((taken : ℕ) (rest : List ℕ) → All (FitsWork desc) (more taken rest).items)
     → FitsStep desc step → All (FitsWork desc) (session_at more step).items
@@ -257,12 +264,12 @@ IsAccepted-script_at : (lines : List (List ℕ)) (end : OpeningEnd) (bad : Optio
     → script_at (described lines) end ≡ Serving desc session_ → IsAccepted desc session_
 IsAccepted-script_at lines (Broken cause place rest) bad desc session_ is_bad serves = absurd cc
 IsAccepted-script_at lines (Go taken rest) (Some line) desc session_ is_bad serves =
-    let same = ap (λ (bad : Option ℕ). script_behind (described lines) taken rest bad) (sym is_bad)
+    let same = ap (λ (bad : Option ℕ). script_after (described lines) taken rest bad) (sym is_bad)
     ∙ serves in
     absurd cc
 IsAccepted-script_at lines (Go taken rest) None desc session_ is_bad serves =
     IsAccepted-same (described lines).desc desc _ session_
-    (ap (λ (bad : Option ℕ). script_behind (described lines) taken rest bad) (sym is_bad) ∙ serves)
+    (ap (λ (bad : Option ℕ). script_after (described lines) taken rest bad) (sym is_bad) ∙ serves)
     (IsAccepted-session lines taken rest)
 
 -- a reading that serves is accepted

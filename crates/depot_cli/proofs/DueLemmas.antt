@@ -8,7 +8,7 @@ use Rattle.depot_cli.specs.Reading.{Session, Step, Ends, Does, session_at, sessi
 use Rattle.depot_cli.specs.ScriptCalls.{IsLeftOf, IsUndone}
 use Rattle.depot_cli.proofs.LineLemmas.{IsLeftOf-le, step_of-leaves}
 
--- no more is due than is left, where a session goes on so
+-- no more is due than is left, if a session goes on so
 session_at-dues : (desc : DescOf) (base taken : ℕ) (more : ℕ → List ℕ → Session) (bytes : List ℕ)
     (step : Step)
     → ((taken : ℕ) (rest : List ℕ) → All (λ (due : ℕ). due ≤ length rest) (more taken rest).dues)
@@ -30,7 +30,7 @@ session_from-dues desc base (suc turns) taken bytes =
     session_at-dues desc base taken (session_from desc base turns) bytes
     (step_of desc base taken bytes) (session_from-dues desc base turns) refl
 
--- so much is left as is due, where that is left which no due goes beyond
+-- so much is left as is due, if that is left which no due goes beyond
 All-left : (left : Option (List ℕ)) (count : ℕ) (dues : List ℕ)
     → IsLeftOf left count → All (λ (due : ℕ). due ≤ count) dues
     → All (λ (due : ℕ). IsLeftOf left due) dues
@@ -38,7 +38,7 @@ All-left left count dues is_left within =
     All-weaker (λ (due : ℕ). due ≤ count) (λ (due : ℕ). IsLeftOf left due)
     (λ due fewer. IsLeftOf-le left count due fewer is_left) dues within
 
--- where a step is not done, neither it nor one behind it was taken to its last byte
+-- where a step is not done, neither it nor one after it was taken to its last byte
 pub All-undone : (desc : DescOf) (base turns taken : ℕ) (bytes : List ℕ) (step : Step)
     (left : Option (List ℕ))
     → step_of desc base taken bytes ≡ step

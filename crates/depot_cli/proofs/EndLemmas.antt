@@ -1,6 +1,7 @@
 -- How a session ends early, by what was served of it: by an input that cannot be read on, by a
 -- fault of a device or for want of memory. There is one lemma for each call at which it may end.
-use Rattle.std.proofs.Common.{◌≡◌, ℕ, suc, ◌+◌, ◌≤◌, List, [], ◌∷◌, ◌++◌, length, Bool, refl, sym, ap, ◌∙◌, arith, append-nil, drop, length-append, subst, take}
+use Rattle.std.proofs.Common.{◌≡◌, ℕ, suc, ◌+◌, ◌≤◌, List, [], ◌∷◌, ◌++◌, length, Bool, refl, sym}
+use Rattle.std.proofs.Common.{ap, ◌∙◌, arith, append-nil, drop, length-append, subst, take}
 use Rattle.std.proofs.Math.Seq.{drop-append_seam, take-append_seam}
 use Rattle.std.specs.Prelude.{IfSome, Option, Some, Ok, Err, All}
 use Rattle.std.specs.Io.KnownBytes.{Appends}
@@ -14,7 +15,8 @@ use Rattle.depot_cli.specs.declared.script.ScriptFault.TheVariants.{Input, ReadF
 use Rattle.depot_cli.specs.declared.run.status.Status.{Status}
 use Rattle.depot_cli.specs.declared.run.status.Status.TheVariants as status
 use Rattle.depot_cli.specs.declared.script.work.Work.{Work}
-use Rattle.depot_cli.specs.Reading.{Serving, Session, Step, Does, session, session_at, session_from, step_of}
+use Rattle.depot_cli.specs.Reading.{Serving, Session, Step, Does, session, session_at, session_from}
+use Rattle.depot_cli.specs.Reading.{step_of}
 use Rattle.depot_cli.specs.ScriptCalls.{IsLeftOf, IsReplied, IsReplyRoom, IsStep, status_of_fault}
 use Rattle.depot_cli.specs.SerialJournal.{serial}
 use Rattle.depot_cli.specs.Replies.{replies, reply}
@@ -31,7 +33,7 @@ first_replies-served desc session items more splits =
     ap (λ (items : List Work). replies desc 1 [] items)
     (sym (ap (λ (all : List Work). take (length items) all) splits ∙ take-append_seam items more))
 
--- the reply to the item behind others
+-- the reply to the item after others
 reply_at-served : (desc : DescOf) (session : Session) (items more : List Work) (work : Work)
     → session.items ≡ items ++ work ∷ more
     → reply desc (1 + length items) (serial desc [] items) work
@@ -47,7 +49,7 @@ reply_at-served desc session items more work splits =
     ∙ drop-append_seam items (work ∷ more))
     ∙ append-nil (reply desc (1 + length items) (serial desc [] items) work))
 
--- items are no more than they are with others behind them
+-- items are no more than they are with others after them
 length-front : (all items more : List Work) → all ≡ items ++ more → length items ≤ length all
 length-front all items more splits = omega (arith, ap length splits, length-append items more)
 
@@ -97,7 +99,7 @@ GainsFront-cut desc session items more work got_before got_now got_next splits r
           replied cut.gained);
     }
 
--- the first items were replied to, and nothing behind them was taken to its last byte
+-- the first items were replied to, and nothing after them was taken to its last byte
 GainsTaken-served : (desc : DescOf) (session : Session) (items more : List Work)
     (dues others : List ℕ) (got_before got_now left : Option (List ℕ))
     → session.items ≡ items ++ more → session.dues ≡ dues ++ others
@@ -127,7 +129,7 @@ GainsTaken-start desc base bytes got left is_left =
     (session desc base bytes).dues got got left refl refl refl (Appends-nil got)
     (All-untaken desc base (suc (length bytes)) 0 bytes left is_left)
 
--- where a session ends behind items, the replies to them are those to all
+-- where a session ends after items, the replies to them are those to all
 replies-all : (desc : DescOf) (items : List Work) (got_before got_now : Option (List ℕ))
     → Appends got_before got_now (replies desc 1 [] items)
     → Appends got_before got_now (replies desc 1 [] (items ++ []))

@@ -1,7 +1,8 @@
 -- A writer that takes records of different lengths writes what the default one does.
 use Rattle.std.proofs.Common.{◌≡◌, ℕ, List, [], ◌∷◌, refl, true}
 use Rattle.std.specs.Prelude.{flat_map, map}
-use Rattle.csv.specs.Writing.{default_writer, escaped, fields_text, is_blank, row_text, with_flexible}
+use Rattle.csv.specs.Writing.{default_writer, escaped, fields_text, is_blank, row_text}
+use Rattle.csv.specs.Writing.{with_flexible}
 use Rattle.csv.specs.declared.writer.WriterBuilder.{WriterBuilder}
 use Rattle.depot_cell.specs.declared.cell.Cell.{Cell}
 use Rattle.depot_cell.specs.Spelling.{text_of}
@@ -21,7 +22,7 @@ unfolding escaped
 escaped-flexible [] = refl
 escaped-flexible (byte ∷ field) = rw (escaped-flexible field) refl
 
--- so are the fields behind the first
+-- so are the fields after the first
 fields_text-flexible : (fields : List (List ℕ))
     → fields_text flexible_writer fields ≡ fields_text default_writer fields
 unfolding fields_text

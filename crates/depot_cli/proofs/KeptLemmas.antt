@@ -1,6 +1,8 @@
 -- What is kept beside the entries of a journal, as the journal grows: at the start, by a load, by
 -- an install, and after a drain.
-use Rattle.std.proofs.Common.{◌≡◌, ◌∙◌, ℕ, zero, suc, ◌+◌, ◌≤◌, List, [], ◌∷◌, ◌++◌, length, take, refl, sym, ap, map, subst, arith, inl, inr, get_or, ◌<◌, append-nil, append_assoc, length-append, take_all}
+use Rattle.std.proofs.Common.{◌≡◌, ◌∙◌, ℕ, zero, suc, ◌+◌, ◌≤◌, List, [], ◌∷◌, ◌++◌, length, take}
+use Rattle.std.proofs.Common.{refl, sym, ap, map, subst, arith, inl, inr, get_or, ◌<◌, append-nil}
+use Rattle.std.proofs.Common.{append_assoc, length-append, take_all}
 use Rattle.std.specs.Prelude.{Bool, true, false, ◌==◌, ◌&&◌, Some, ◌⊎◌, if◌then◌else◌, filter, fold}
 use Rattle.std.specs.List.{list_all}
 use Rattle.std.specs.Ordering.{is_eq, nat_cmp, ordering_then}
@@ -29,13 +31,15 @@ use Rattle.view_meaning.specs.LegalJournals.{IsLegal}
 use Rattle.view_meaning.proofs.AmongLemmas.{is_key-itself, is_key-same}
 use Rattle.view_meaning.proofs.DrainLemmas.{IsLegal-drained, is_settled-drained}
 use Rattle.view_meaning.proofs.UnsettledLemmas.{unsettled-with_loads}
-use Rattle.view_meaning.proofs.VersionLemmas.{install_places-append, install_places-same, last_place-Install, last_place-same}
+use Rattle.view_meaning.proofs.VersionLemmas.{install_places-append, install_places-same}
+use Rattle.view_meaning.proofs.VersionLemmas.{last_place-Install, last_place-same}
 use Rattle.view_meaning.proofs.LegalLemmas.{IsLegal-push, last_place-le}
 use Rattle.view_meaning.proofs.SettledLemmas.{is_stale-current}
 use Rattle.depot_cli.specs.declared.book.version.Version.{Version}
 use Rattle.depot_cli.specs.KeptJournals.{DrainsSome}
 use Rattle.table_desc.specs.Keys.{key_cmp}
-use Rattle.depot_cli.specs.KeptJournals.{IsKept, JournalOf, latest, latest_in, number_in, version_made}
+use Rattle.depot_cli.specs.KeptJournals.{IsKept, JournalOf, latest, latest_in, number_in}
+use Rattle.depot_cli.specs.KeptJournals.{version_made}
 
 -- a test that each element passes
 list_all-each : {X : Type 0} (test : X → Bool) (xs : List X) → ((x : X) → test x ≡ true)
@@ -285,11 +289,11 @@ number_in-le desc journal key kept =
     )
 
 -- one key more of a list is installed
-pub fold-take-more : {X Y : Type 0} (step : Y → X → Y) (start : Y) (xs : List X) (index : ℕ)
+pub fold-take-push : {X Y : Type 0} (step : Y → X → Y) (start : Y) (xs : List X) (index : ℕ)
     (default : X) → index < length xs
     → fold step start (take (index + 1) xs)
     ≡ step (fold step start (take index xs)) (get_or xs index default)
-fold-take-more step start xs index default within =
+fold-take-push step start xs index default within =
     ap (fold step start) (take_more xs index default within)
     ∙ fold-append step start (take index xs) (get_or xs index default ∷ [])
 

@@ -1,5 +1,7 @@
 -- What the next line, body and step of an input leave, and what is due of them.
-use Rattle.std.proofs.Common.{◌≡◌, ℕ, suc, zero, ◌+◌, ◌-◌, ◌<◌, ◌≤◌, List, [], ◌∷◌, length, Bool, true, false, refl, sym, ap, ◌∙◌, arith, nat_lt, nat_le, if◌then◌else◌, length-drop, min, subst}
+use Rattle.std.proofs.Common.{◌≡◌, ℕ, suc, zero, ◌+◌, ◌-◌, ◌<◌, ◌≤◌, List, [], ◌∷◌, length, Bool}
+use Rattle.std.proofs.Common.{true, false, refl, sym, ap, ◌∙◌, arith, nat_lt, nat_le, if◌then◌else◌}
+use Rattle.std.proofs.Common.{length-drop, min, subst}
 use Rattle.std.specs.Prelude.{IfSome, Option, Some, None, Ok, drop, take}
 use Rattle.std.specs.Io.BufRead.{first_line}
 use Rattle.std.proofs.lemmas.Bool.{ltb-false}
@@ -12,7 +14,9 @@ use Rattle.depot_cli.specs.declared.script.order.Order.{Order}
 use Rattle.depot_cli.specs.declared.script.order.Order.TheVariants as order
 use Rattle.depot_cli.specs.declared.script.work.Work.{Work}
 use Rattle.depot_cli.specs.Orders.{order_of}
-use Rattle.depot_cli.specs.Reading.{NextLine, NoLine, Unreadable, Line, next_line, NextBody, Unfinished, Body, next_body, Does, body_due, body_step, line_due, order_step, line_step, step_of}
+use Rattle.depot_cli.specs.Reading.{NextLine, NoLine, Unreadable, Line, next_line, NextBody}
+use Rattle.depot_cli.specs.Reading.{Unfinished, Body, next_body, Does, body_due, body_step}
+use Rattle.depot_cli.specs.Reading.{line_due, order_step, line_step, step_of}
 use Rattle.depot_cli.specs.ScriptCalls.{IsBodyUndone, IsLeftOf, IsNextLine}
 use Rattle.depot_cli.proofs.KnownLemmas.{IfSome-known}
 
@@ -54,7 +58,7 @@ body_there true cut over body rest its_body its_rest there = cc
 body_there false true over body rest its_body its_rest there = cc
 body_there false false over body rest its_body its_rest there = cc
 
--- a body leaves what stands behind it
+-- a body leaves what stands after it
 next_body-left : (taken size : ℕ) (bytes body rest : List ℕ)
     → next_body taken size bytes ≡ Body body rest
     → length rest ≡ length bytes - size
@@ -64,7 +68,7 @@ next_body-left taken size bytes body rest there =
     (drop size bytes) body rest there in
     ap length (sym is_rest) ∙ length-drop size bytes
 
--- a body is due no later than its line, and not before what stands behind it
+-- a body is due no later than its line, and not before what stands after it
 body_due-within : (due size : ℕ) (bytes : List ℕ) → length bytes ≤ due
     → (length bytes - size ≤ body_due due size bytes) × (body_due due size bytes ≤ due)
 body_due-within due zero bytes within = (omega arith, omega arith)
@@ -85,7 +89,7 @@ Does-same work its_work due its_due taken its_taken rest its_rest same =
     let is_rest : its_rest ≡ rest = cc in
     (ap length is_rest, cc)
 
--- what is done at a body leaves what stands behind it
+-- what is done at a body leaves what stands after it
 body_step-left : (desc : DescOf) (base due taken size : ℕ) (head : Option Head)
     (bytes rest : List ℕ) (next : NextBody) (work : Work) (its_due taken_now : ℕ)
     → next_body taken size bytes ≡ next
@@ -98,7 +102,7 @@ body_step-left desc base due taken size head bytes rest (Body body behind) work 
     let same = Does-same _ work due its_due _ taken_now behind rest does in
     (same.0 ∙ next_body-left taken size bytes body behind is_next, same.1)
 
--- what is done at a line alone leaves what stands behind it
+-- what is done at a line alone leaves what stands after it
 Does-leaves : (asked work : Work) (due its_due taken taken_now : ℕ) (bytes rest : List ℕ)
     → length bytes ≤ due
     → Does asked due taken bytes ≡ Does work its_due taken_now rest
@@ -111,7 +115,7 @@ Does-leaves asked work due its_due taken taken_now bytes rest within does =
       within = omega arith;
     }
 
--- what is done for an order leaves no more than stood behind its line, and is due no later
+-- what is done for an order leaves no more than stood after its line, and is due no later
 order_step-leaves : (desc : DescOf) (base due taken : ℕ) (asked : Order) (bytes rest : List ℕ)
     (work : Work) (its_due taken_now : ℕ)
     → length bytes ≤ due

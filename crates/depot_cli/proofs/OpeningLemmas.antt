@@ -1,16 +1,20 @@
 -- How far a description was read: what its lines so far describe, and that what is left goes on
 -- to the opening of the whole input.
-use Rattle.std.proofs.Common.{◌≡◌, ℕ, suc, zero, ◌+◌, ◌≤◌, List, [], ◌∷◌, ◌++◌, length, Bool, true, false, refl, sym, ap, ◌∙◌, arith, append_assoc, append-nil, subst}
+use Rattle.std.proofs.Common.{◌≡◌, ℕ, suc, zero, ◌+◌, ◌≤◌, List, [], ◌∷◌, ◌++◌, length, Bool, true}
+use Rattle.std.proofs.Common.{false, refl, sym, ap, ◌∙◌, arith, append_assoc, append-nil, subst}
 use Rattle.std.specs.Prelude.{IfSome, Option, Some, None, Ok, Err}
 use Rattle.std.proofs.lemmas.List.Sums.{fold-append}
 use Rattle.depot_io.specs.Lines.{line_take}
 use Rattle.std.specs.Prelude.{is_some, if◌then◌else◌, ◌||◌}
 use Rattle.table_desc.specs.Descriptions.{DescOf}
 use Rattle.table_desc.specs.Words.{words, is_skipped}
-use Rattle.table_desc.specs.Grammar.{Described, described, with_line, with_declared, declared_by, nothing_described, is_go}
+use Rattle.table_desc.specs.Grammar.{Described, described, with_line, with_declared, declared_by}
+use Rattle.table_desc.specs.Grammar.{nothing_described, is_go}
 use Rattle.depot_cli.specs.declared.script.ScriptFault.{ScriptFault}
 use Rattle.depot_cli.specs.declared.script.ScriptFault.TheVariants.{Input, ReadFault, Memory}
-use Rattle.depot_cli.specs.Reading.{NextLine, NoLine, Unreadable, Line, line_due, next_line, Opening, OpeningEnd, Go, Broken, opening, opening_at, opening_from, after_line}
+use Rattle.depot_cli.specs.Reading.{NextLine, NoLine, Unreadable, Line, line_due, next_line}
+use Rattle.depot_cli.specs.Reading.{Opening, OpeningEnd, Go, Broken, opening, opening_at}
+use Rattle.depot_cli.specs.Reading.{opening_from, after_line}
 use Rattle.depot_cli.specs.ScriptCalls.{IsBeforeGo, IsLeftOf, IsNextLine, IsOpening}
 use Rattle.depot_cli.proofs.KnownLemmas.{IfSome-known}
 use Rattle.depot_cli.proofs.LineLemmas.{IsLeftOf-le, known_line, next_line-shorter}
@@ -31,8 +35,8 @@ pub record HasOpened (whole : Opening) (before : Described) (taken : ℕ)
   pub goes_on : after_lines lines (opening_from (suc turns) taken rest) ≡ whole
 
 -- nothing was read
-pub HasOpened-start : (bytes : List ℕ) → HasOpened (opening bytes) nothing_described 0 (Some bytes)
-HasOpened-start bytes = record {
+pub HasOpened-empty : (bytes : List ℕ) → HasOpened (opening bytes) nothing_described 0 (Some bytes)
+HasOpened-empty bytes = record {
   rest = bytes;
   lines = [];
   turns = length bytes;
@@ -61,7 +65,7 @@ opening_next whole lines turns taken rest next is_next goes_on =
     (opening_at (opening_from turns (taken + line_take rest)) taken rest next)) (sym is_next)
     ∙ goes_on
 
--- the opening behind a line that does not end it
+-- the opening after a line that does not end it
 opening_at-line : (more : List ℕ → Opening) (taken : ℕ) (bytes line rest : List ℕ)
     → is_go (words line) ≡ false
     → opening_at more taken bytes (Line line rest) ≡ after_line line (more rest)
@@ -114,7 +118,7 @@ HasOpened-line whole before taken taken_now place line there left left_now opene
         more : List ℕ → Opening
         more = opening_from (suc turns) (taken + line_take opened.rest)
 
--- what stands behind the `go` line is no more than is due of the first line
+-- what stands after the `go` line is no more than is due of the first line
 opening_at-left : (more : List ℕ → Opening) (taken taken_now : ℕ) (bytes rest : List ℕ)
     (next : NextLine)
     → ((behind : List ℕ) → (more behind).end ≡ Go taken_now rest → length rest ≤ line_due behind)
@@ -137,7 +141,7 @@ opening_at-left more taken taken_now bytes rest (Line line behind) later is_next
     by_line false goes =
         omega (arith, (next_line-shorter taken bytes line behind is_next).1, later behind goes)
 
--- what stands behind the `go` line is no more than is due of the first line, in so many turns
+-- what stands after the `go` line is no more than is due of the first line, in so many turns
 opening_from-left : (turns taken taken_now : ℕ) (bytes rest : List ℕ)
     → (opening_from turns taken bytes).end ≡ Go taken_now rest
     → length rest ≤ line_due bytes
@@ -148,7 +152,7 @@ opening_from-left (suc turns) taken taken_now bytes rest goes =
     (λ behind goes. opening_from-left turns (taken + line_take bytes) taken_now behind rest goes)
     refl goes
 
--- no byte behind a `go` line was taken where so much is left at least as stands there
+-- no byte after a `go` line was taken where so much is left at least as stands there
 IsBeforeGo-le : (end : OpeningEnd) (left : Option (List ℕ)) (count : ℕ)
     → ((taken : ℕ) (rest : List ℕ) → end ≡ Go taken rest → length rest ≤ count)
     → IsLeftOf left count → IsBeforeGo end left
@@ -175,7 +179,7 @@ opening_fault whole turns taken taken_now place rest line lines left_now ReadFau
     answer =
     subst (λ (opening : Opening). IsBeforeGo opening.end left_now) goes_on
     (IsBeforeGo-le (opening_from (suc turns) taken rest).end left_now (line_due rest)
-    (λ taken_behind behind goes. opening_from-left (suc turns) taken taken_behind rest behind goes)
+    (λ taken_after behind goes. opening_from-left (suc turns) taken taken_after rest behind goes)
     answer)
 opening_fault whole turns taken taken_now place rest line lines left_now Memory goes_on is_place
     answer = absurd answer
@@ -195,12 +199,12 @@ HasOpened-fault whole before taken taken_now place line left left_now fault open
     opened.is_left answer)
 
 -- nothing was read of what a source has left
-pub HasOpened-init : (left : Option (List ℕ)) (before : Described) → before ≡ nothing_described
+pub HasOpened-start : (left : Option (List ℕ)) (before : Described) → before ≡ nothing_described
     → IfSome left (λ bytes. HasOpened (opening bytes) before 0 left)
-HasOpened-init None before is_nothing = tt
-HasOpened-init (Some bytes) before is_nothing =
+HasOpened-start None before is_nothing = tt
+HasOpened-start (Some bytes) before is_nothing =
     subst (λ (before : Described). HasOpened (opening bytes) before 0 (Some bytes))
-    (sym is_nothing) (HasOpened-start bytes)
+    (sym is_nothing) (HasOpened-empty bytes)
 
 -- a line is counted, whatever it says
 pub lines-with_line : (before : Described) (line : List ℕ)

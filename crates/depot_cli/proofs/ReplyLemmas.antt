@@ -1,5 +1,6 @@
 -- What the definitions of the replies come to while nothing closes.
-use Rattle.std.proofs.Common.{◌≡◌, ℕ, ◌+◌, List, [], ◌∷◌, ◌++◌, length, false, refl, sym, ap, ◌∙◌, arith, map, append-nil, append_assoc, le-ltb, ◌≤◌, ◌-◌}
+use Rattle.std.proofs.Common.{◌≡◌, ℕ, ◌+◌, List, [], ◌∷◌, ◌++◌, length, false, refl, sym, ap, ◌∙◌}
+use Rattle.std.proofs.Common.{arith, map, append-nil, append_assoc, le-ltb, ◌≤◌, ◌-◌}
 use Rattle.std.specs.Prelude.{Option, Some, None, slice_get, fold, take, flat_map}
 use Rattle.std.specs.List.{range_with_len}
 use Rattle.std.proofs.lemmas.List.FromFn.{length-map-range_with_len, map-range_with_len_more}
@@ -25,7 +26,8 @@ use Rattle.depot_cli.specs.KeptJournals.{latest, version_made}
 use Rattle.view_meaning.proofs.ListLemmas.{filter-none}
 use Rattle.view_meaning.proofs.SetAsideLemmas.{kept_rows-all, aside_rows-none}
 use Rattle.depot_cli.specs.Replies.{load_reply}
-use Rattle.depot_cli.specs.Texts.{answer_line, answer_text, feed_name, loaded_text, shown_text, name_of, table_name}
+use Rattle.depot_cli.specs.Texts.{answer_line, answer_text, feed_name, loaded_text, shown_text}
+use Rattle.depot_cli.specs.Texts.{name_of, table_name}
 
 -- the reply to a delivery that is no repeat: all of its rows are kept
 pub load_reply-new : (desc : DescOf) (journal : List Entry) (delivery : DeliveryOf)

@@ -1,5 +1,6 @@
 -- The room that a sink tells, as replies are put into it one after the other.
-use Rattle.std.proofs.Common.{◌≡◌, ℕ, ◌+◌, ◌≤◌, List, [], ◌∷◌, ◌++◌, length, ap, sym, ◌∙◌, subst, arith, length-append}
+use Rattle.std.proofs.Common.{◌≡◌, ℕ, ◌+◌, ◌≤◌, List, [], ◌∷◌, ◌++◌, length, ap, sym, ◌∙◌, subst}
+use Rattle.std.proofs.Common.{arith, length-append}
 use Rattle.std.specs.Prelude.{Option, Err}
 use Rattle.table_desc.specs.Descriptions.{DescOf}
 use Rattle.depot_io.specs.Puts.{HasRoomFor, room_after}

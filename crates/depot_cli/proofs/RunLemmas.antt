@@ -1,4 +1,4 @@
--- The run of an input, by its description and the session behind it.
+-- The run of an input, by its description and the session after it.
 use Rattle.std.proofs.Common.{◌≡◌, ℕ, List, length, refl, sym, ap, inl, inr, ◌∙◌, subst, IfSome}
 use Rattle.std.specs.Prelude.{Option, Some, None, Ok, Err}
 use Rattle.std.proofs.KnownBytes.{Appends-nil}
@@ -9,7 +9,8 @@ use Rattle.depot_cli.specs.declared.run.status.Status.TheVariants as status
 use Rattle.depot_cli.specs.declared.run.status.DescCause.TheVariants as cause
 use Rattle.table_desc.specs.Descriptions.{DescOf}
 use Rattle.table_desc.specs.Grammar.{Described, described}
-use Rattle.depot_cli.specs.Reading.{OpeningEnd, Go, Broken, Script, Unopened, Misdescribed, Serving, opening, reading, script_at, script_behind, session}
+use Rattle.depot_cli.specs.Reading.{OpeningEnd, Go, Broken, Script, Unopened, Misdescribed, Serving}
+use Rattle.depot_cli.specs.Reading.{opening, reading, script_at, script_after, session}
 use Rattle.depot_cli.specs.ScriptCalls.{IsBeforeGo, IsLeftOf, IsOpening, status_of_fault}
 use Rattle.depot_cli.specs.Runs.{GainsFrontOf, GainsTakenOf, HasCompleteRuns, IsRun}
 use Rattle.depot_cli.proofs.KnownLemmas.{IfSome-each}
@@ -23,9 +24,9 @@ reading-opened : (input : List ℕ) (before : Described) (taken : ℕ) (rest : L
 reading-opened input before taken rest describes ends accepted =
     ap (λ (before : Described). script_at before (opening input).end) (sym describes)
     ∙ ap (λ (end : OpeningEnd). script_at before end) ends
-    ∙ ap (λ (bad : Option ℕ). script_behind before taken rest bad) accepted
+    ∙ ap (λ (bad : Option ℕ). script_after before taken rest bad) accepted
 
--- the run of a session behind an accepted description is the run of the input
+-- the run of a session after an accepted description is the run of the input
 pub IsRun-opened : (input : List ℕ) (before : Described) (desc : DescOf) (taken : ℕ)
     (left : Option (List ℕ)) (got_before got_now left_now : Option (List ℕ)) (room : Option ℕ)
     (ended : Status)
@@ -48,21 +49,21 @@ GainsFrontOf-start (Unopened why place rest) got = Appends-nil got
 GainsFrontOf-start (Misdescribed line rest) got = Appends-nil got
 GainsFrontOf-start (Serving desc session) got = GainsFront-start desc session got
 
--- nothing was put, and nothing behind the description was taken
-GainsTakenOf-behind : (before : Described) (base : ℕ) (rest : List ℕ) (bad : Option ℕ)
+-- nothing was put, and nothing after the description was taken
+GainsTakenOf-after : (before : Described) (base : ℕ) (rest : List ℕ) (bad : Option ℕ)
     (got left : Option (List ℕ))
     → IsLeftOf left (length rest)
-    → GainsTakenOf (script_behind before base rest bad) got got left
-GainsTakenOf-behind before base rest None got left is_left =
+    → GainsTakenOf (script_after before base rest bad) got got left
+GainsTakenOf-after before base rest None got left is_left =
     GainsTaken-start before.desc base rest got left is_left
-GainsTakenOf-behind before base rest (Some line) got left is_left = Appends-nil got
+GainsTakenOf-after before base rest (Some line) got left is_left = Appends-nil got
 
--- nothing was put, and nothing behind the `go` line was taken
+-- nothing was put, and nothing after the `go` line was taken
 GainsTakenOf-start : (before : Described) (end : OpeningEnd) (got left : Option (List ℕ))
     → IsBeforeGo end left
     → GainsTakenOf (script_at before end) got got left
 GainsTakenOf-start before (Go taken rest) got left is_left =
-    GainsTakenOf-behind before taken rest before.bad got left is_left
+    GainsTakenOf-after before taken rest before.bad got left is_left
 GainsTakenOf-start before (Broken why place rest) got left is_left = Appends-nil got
 
 -- the run of an input whose description was not read
@@ -103,7 +104,7 @@ reading-misdescribed : (input : List ℕ) (before : Described) (taken line : ℕ
 reading-misdescribed input before taken line rest describes ends is_bad =
     ap (λ (before : Described). script_at before (opening input).end) (sym describes)
     ∙ ap (λ (end : OpeningEnd). script_at before end) ends
-    ∙ ap (λ (bad : Option ℕ). script_behind before taken rest bad) is_bad
+    ∙ ap (λ (bad : Option ℕ). script_after before taken rest bad) is_bad
 
 -- the run of an input whose description is not accepted
 pub IsRun-misdescribed : (input : List ℕ) (before : Described) (taken line : ℕ)

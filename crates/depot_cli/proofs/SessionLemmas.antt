@@ -1,6 +1,8 @@
 -- How far a session was served: what was replied, what the journal has, and that what is left
 -- goes on to the session of the whole input.
-use Rattle.std.proofs.Common.{◌≡◌, ℕ, suc, zero, ◌+◌, ◌≤◌, List, [], ◌∷◌, ◌++◌, length, Bool, false, refl, sym, ap, ◌∙◌, arith, append_assoc, append-nil, length-append, subst}
+use Rattle.std.proofs.Common.{◌≡◌, ℕ, suc, zero, ◌+◌, ◌≤◌, List, [], ◌∷◌, ◌++◌, length, Bool, false}
+use Rattle.std.proofs.Common.{refl, sym, ap, ◌∙◌, arith, append_assoc, append-nil, length-append}
+use Rattle.std.proofs.Common.{subst}
 use Rattle.std.specs.Prelude.{IfSome, Option, Some, None, Ok, ◌||◌}
 use Rattle.std.specs.Io.KnownBytes.{Appends}
 use Rattle.std.proofs.KnownBytes.{Appends-nil, Appends-trans}
@@ -10,7 +12,8 @@ use Rattle.std.proofs.lemmas.List.Sums.{fold-append}
 use Rattle.table_desc.specs.Descriptions.{DescOf}
 use Rattle.view_meaning.specs.declared.journal.Entry.{Entry}
 use Rattle.depot_cli.specs.declared.script.work.Work.{Work}
-use Rattle.depot_cli.specs.Reading.{Session, Step, Does, after_item, session, session_at, session_from, step_of}
+use Rattle.depot_cli.specs.Reading.{Session, Step, Does, after_item, session, session_at}
+use Rattle.depot_cli.specs.Reading.{session_from, step_of}
 use Rattle.depot_cli.specs.ScriptCalls.{IsStep}
 use Rattle.depot_cli.specs.SerialJournal.{journal_after, serial}
 use Rattle.depot_cli.specs.Replies.{has_refused, is_refused, replies, reply}
@@ -48,10 +51,10 @@ pub record HasServed (desc : DescOf) (base : ℕ) (whole : Session)
   pub told : refused ≡ has_refused items
 
 -- nothing was served
-pub HasServed-start : (desc : DescOf) (base : ℕ) (bytes : List ℕ) (got : Option (List ℕ))
+pub HasServed-empty : (desc : DescOf) (base : ℕ) (bytes : List ℕ) (got : Option (List ℕ))
     (room : Option ℕ)
     → HasServed desc base (session desc base bytes) got got room room [] 1 false 0 (Some bytes)
-HasServed-start desc base bytes got room = record {
+HasServed-empty desc base bytes got room = record {
   rest = bytes;
   items = [];
   dues = [];
@@ -68,18 +71,18 @@ HasServed-start desc base bytes got room = record {
 }
 
 -- nothing was served of what a source has left
-pub HasServed-init : (desc : DescOf) (base : ℕ) (left got : Option (List ℕ)) (room : Option ℕ)
+pub HasServed-start : (desc : DescOf) (base : ℕ) (left got : Option (List ℕ)) (room : Option ℕ)
     (journal : List Entry) (taken : ℕ)
     → journal ≡ [] → taken ≡ 0
     → IfSome left (λ input.
     HasServed desc base (session desc base input) got got room room journal 1 false taken left)
-HasServed-init desc base None got room journal taken is_new is_start = tt
-HasServed-init desc base (Some input) got room journal taken is_new is_start =
+HasServed-start desc base None got room journal taken is_new is_start = tt
+HasServed-start desc base (Some input) got room journal taken is_new is_start =
     let P : List Entry → ℕ → Type 0 = λ journal taken.
     HasServed desc base (session desc base input) got got room room journal 1 false taken (Some input) in
     subst (λ (taken : ℕ). P journal taken) (sym is_start)
     (subst (λ (journal : List Entry). P journal 0) (sym is_new)
-    (HasServed-start desc base input got room))
+    (HasServed-empty desc base input got room))
 
 -- what the session is from here on, at its next step
 pub session_next : (desc : DescOf) (base turns taken : ℕ) (rest : List ℕ) (items : List Work)
@@ -105,7 +108,7 @@ after_items-push items dues work due session =
     })
     (sym (append_assoc dues (due ∷ []) session.dues))
 
--- what was put and then what was put behind it
+-- what was put and then what was put after it
 pub Appends-reply : (before now next : Option (List ℕ)) (text more all : List ℕ)
     → Appends before now text → Appends now next more → text ++ more ≡ all → Appends before next all
 Appends-reply before now next text more all first second is_all =

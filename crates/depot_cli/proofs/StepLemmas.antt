@@ -1,5 +1,6 @@
 -- What the answer at a line or at a body says of the step that it belongs to.
-use Rattle.std.proofs.Common.{◌≡◌, ℕ, suc, zero, ◌+◌, ◌-◌, ◌≤◌, List, length, Bool, true, refl, sym, ap, ◌∙◌, arith, subst}
+use Rattle.std.proofs.Common.{◌≡◌, ℕ, suc, zero, ◌+◌, ◌-◌, ◌≤◌, List, length, Bool, true, refl, sym}
+use Rattle.std.proofs.Common.{ap, ◌∙◌, arith, subst}
 use Rattle.std.specs.Prelude.{IfSome, Option, Some, None, Result, Ok, Err}
 use Rattle.std.proofs.lemmas.Option.{IfSome_then}
 use Rattle.depot_io.specs.Lines.{line_take}
@@ -11,8 +12,11 @@ use Rattle.depot_cli.specs.declared.script.ScriptFault.{ScriptFault}
 use Rattle.depot_cli.specs.declared.script.ScriptFault.TheVariants.{Input, ReadFault, Memory}
 use Rattle.depot_cli.specs.declared.script.work.Work.{Work}
 use Rattle.depot_cli.specs.Orders.{order_of}
-use Rattle.depot_cli.specs.Reading.{NextLine, Line, next_line, NextBody, Unfinished, Body, next_body, Step, Ends, Does, Stopped, body_due, body_work, body_step, line_due, line_step, order_step, step_of}
-use Rattle.depot_cli.specs.ScriptCalls.{IsBodyUndone, IsDone, IsLeftOf, IsNextBody, IsNextLine, IsStep, IsUndone}
+use Rattle.depot_cli.specs.Reading.{NextLine, Line, next_line, NextBody, Unfinished, Body}
+use Rattle.depot_cli.specs.Reading.{next_body, Step, Ends, Does, Stopped, body_due, body_work}
+use Rattle.depot_cli.specs.Reading.{body_step, line_due, line_step, order_step, step_of}
+use Rattle.depot_cli.specs.ScriptCalls.{IsBodyUndone, IsDone, IsLeftOf, IsNextBody, IsNextLine}
+use Rattle.depot_cli.specs.ScriptCalls.{IsStep, IsUndone}
 use Rattle.depot_cli.proofs.KnownLemmas.{IfSome-known}
 use Rattle.depot_cli.proofs.LineLemmas.{IsLeftOf-le, known_line, step_of-leaves}
 
@@ -60,14 +64,14 @@ IsStep-line_fault desc base taken taken_now line left left_now fault answer =
     IsStep-at_line desc base taken taken_now bytes line left_now fault answer)
 
 -- the step at a line that is there
-step_of-line : (desc : DescOf) (base taken taken_behind : ℕ) (bytes line rest : List ℕ)
+step_of-line : (desc : DescOf) (base taken taken_after : ℕ) (bytes line rest : List ℕ)
     (asked : Order)
     → next_line taken bytes ≡ Line line rest
-    → taken_behind ≡ taken + line_take bytes
+    → taken_after ≡ taken + line_take bytes
     → order_of desc line ≡ asked
     → step_of desc base taken bytes
-    ≡ order_step desc base (line_due bytes) taken_behind asked rest
-step_of-line desc base taken taken_behind bytes line rest asked there count is_order =
+    ≡ order_step desc base (line_due bytes) taken_after asked rest
+step_of-line desc base taken taken_after bytes line rest asked there count is_order =
     ap (λ (next : NextLine). line_step desc base taken bytes next) there
     ∙ ap (λ (asked : Order).
     order_step desc base (line_due bytes) (taken + line_take bytes) asked rest) is_order
@@ -125,33 +129,33 @@ IsDone-at_body desc base due taken taken_now size place head bytes body left rea
     }
 
 -- what the answer at an order says of the step at its line
-IsStep-behind : (desc : DescOf) (base taken taken_behind taken_now place : ℕ) (asked : Order)
+IsStep-after : (desc : DescOf) (base taken taken_after taken_now place : ℕ) (asked : Order)
     (line : List ℕ) (there : Bool) (left behind left_now : Option (List ℕ))
     (result : Result (Option Work) ScriptFault)
     → there ≡ true
     → order_of desc line ≡ asked
     → IfSome left (λ bytes.
     IsNextLine (next_line taken bytes) (line_due bytes) place line behind (Ok there))
-    → IfSome left (λ bytes. taken_behind ≡ taken + line_take bytes)
+    → IfSome left (λ bytes. taken_after ≡ taken + line_take bytes)
     → IfSome behind (λ rest. (due : ℕ)
-    → IsStep (order_step desc base due taken_behind asked rest) taken_now left_now result)
+    → IsStep (order_step desc base due taken_after asked rest) taken_now left_now result)
     → IfSome left (λ bytes. IsStep (step_of desc base taken bytes) taken_now left_now result)
-IsStep-behind desc base taken taken_behind taken_now place asked line there None behind left_now
+IsStep-after desc base taken taken_after taken_now place asked line there None behind left_now
     result is_there is_asked stood counted answer = tt
-IsStep-behind desc base taken taken_behind taken_now place asked line there (Some bytes) behind
+IsStep-after desc base taken taken_after taken_now place asked line there (Some bytes) behind
     left_now result is_there is_asked stood counted answer =
     let line_read = known_line taken place line behind (Some bytes) bytes there refl is_there
     stood in
     subst (λ (step : Step). IsStep step taken_now left_now result)
-    (sym (step_of-line desc base taken taken_behind bytes line line_read.0 asked line_read.1
+    (sym (step_of-line desc base taken taken_after bytes line line_read.0 asked line_read.1
     counted is_asked))
     (IfSome-known behind line_read.0
     (λ rest. (due : ℕ)
-    → IsStep (order_step desc base due taken_behind asked rest) taken_now left_now result)
+    → IsStep (order_step desc base due taken_after asked rest) taken_now left_now result)
     line_read.2 answer (line_due bytes))
 
--- a fault at the body behind a line is one at its step
-pub IsStep-body_fault : (desc : DescOf) (base taken taken_behind taken_now place size : ℕ)
+-- a fault at the body after a line is one at its step
+pub IsStep-body_fault : (desc : DescOf) (base taken taken_after taken_now place size : ℕ)
     (head : Option Head) (line body : List ℕ) (there : Bool)
     (left behind left_now : Option (List ℕ))
     (fault : ScriptFault)
@@ -159,19 +163,19 @@ pub IsStep-body_fault : (desc : DescOf) (base taken taken_behind taken_now place
     → order_of desc line ≡ order.Body head size
     → IfSome left (λ bytes.
     IsNextLine (next_line taken bytes) (line_due bytes) place line behind (Ok there))
-    → IfSome left (λ bytes. taken_behind ≡ taken + line_take bytes)
-    → IfSome behind (λ bytes. IsNextBody (next_body taken_behind size bytes) size
-    (base + taken_behind) bytes body left_now (Err fault))
+    → IfSome left (λ bytes. taken_after ≡ taken + line_take bytes)
+    → IfSome behind (λ bytes. IsNextBody (next_body taken_after size bytes) size
+    (base + taken_after) bytes body left_now (Err fault))
     → IfSome left (λ bytes. IsStep (step_of desc base taken bytes) taken_now left_now (Err fault))
-IsStep-body_fault desc base taken taken_behind taken_now place size head line body there left behind
+IsStep-body_fault desc base taken taken_after taken_now place size head line body there left behind
     left_now fault is_there is_body stood counted answer =
-    IsStep-behind desc base taken taken_behind taken_now place (order.Body head size) line there
+    IsStep-after desc base taken taken_after taken_now place (order.Body head size) line there
     left behind left_now (Err fault) is_there is_body stood counted
     (IfSome_then behind answer (λ rest answer due.
-    IsStep-at_body desc base due taken_behind taken_now size head rest body left_now fault answer))
+    IsStep-at_body desc base due taken_after taken_now size head rest body left_now fault answer))
 
--- what is done at the body behind a line is done at its step
-pub IsStep-body : (desc : DescOf) (base taken taken_behind taken_now place size : ℕ)
+-- what is done at the body after a line is done at its step
+pub IsStep-body : (desc : DescOf) (base taken taken_after taken_now place size : ℕ)
     (head : Option Head) (line body : List ℕ) (there : Bool)
     (left behind left_now : Option (List ℕ))
     (read : Unit {0}) (work : Work)
@@ -179,17 +183,17 @@ pub IsStep-body : (desc : DescOf) (base taken taken_behind taken_now place size 
     → order_of desc line ≡ order.Body head size
     → IfSome left (λ bytes.
     IsNextLine (next_line taken bytes) (line_due bytes) place line behind (Ok there))
-    → IfSome left (λ bytes. taken_behind ≡ taken + line_take bytes)
-    → IfSome behind (λ bytes. IsNextBody (next_body taken_behind size bytes) size
-    (base + taken_behind) bytes body left_now (Ok read))
-    → taken_now ≡ taken_behind + size
+    → IfSome left (λ bytes. taken_after ≡ taken + line_take bytes)
+    → IfSome behind (λ bytes. IsNextBody (next_body taken_after size bytes) size
+    (base + taken_after) bytes body left_now (Ok read))
+    → taken_now ≡ taken_after + size
     → work ≡ body_work desc head body
     → IfSome left (λ bytes.
     IsStep (step_of desc base taken bytes) taken_now left_now (Ok (Some work)))
-IsStep-body desc base taken taken_behind taken_now place size head line body there left behind
+IsStep-body desc base taken taken_after taken_now place size head line body there left behind
     left_now read work is_there is_body stood counted answer count is_work =
-    IsStep-behind desc base taken taken_behind taken_now place (order.Body head size) line there
+    IsStep-after desc base taken taken_after taken_now place (order.Body head size) line there
     left behind left_now (Ok (Some work)) is_there is_body stood counted
     (IfSome_then behind answer (λ rest answer due.
-    IsDone-at_body desc base due taken_behind taken_now size (base + taken_behind) head rest body
+    IsDone-at_body desc base due taken_after taken_now size (base + taken_after) head rest body
     left_now read work answer count is_work))

@@ -1,6 +1,7 @@
 -- What a run keeps of its journal beside the entries: of each partition of a view that was
 -- installed its latest version with its rows, and which deliveries came since all was settled.
-use Rattle.std.specs.Prelude.{ℕ, zero, suc, ◌≡◌, List, ◌++◌, Option, Some, None, true, length, map, take, fold}
+use Rattle.std.specs.Prelude.{ℕ, zero, suc, ◌≡◌, List, ◌++◌, Option, Some, None, true, length, map}
+use Rattle.std.specs.Prelude.{take, fold}
 use Rattle.std.specs.Map.{lookup}
 use Rattle.std.specs.BTreeMap.{is_at}
 use Rattle.std.specs.Ordering.{nat_cmp, ordering_then}
@@ -26,7 +27,7 @@ use Rattle.depot_cli.specs.declared.script.work.Work.TheVariants as work
 abbrev pub latest_in : List (Key × Version) → Key → Option Version
 latest_in versions key = lookup (is_at (key_cmp key)) versions
 
--- the number of a latest version, and 0 where there is none
+-- the number of a latest version, and 0 if there is none
 abbrev pub number_in : Option Version → ℕ
 number_in None = 0
 number_in (Some version) = version.number
@@ -37,7 +38,7 @@ pub record JournalOf : Type 0 where
   pub fresh : List DeliveryOf
   pub versions : List (Key × Version)
 
--- the version of a partition that was installed so often, the last time with this place, where
+-- the version of a partition that was installed so often, the last time with this place, if
 -- these entries stand before the place; version 0 is none
 abbrev pub version_made : DescOf → Key → (number at : ℕ) → (before : List Entry) → Option Version
 version_made desc key zero at before = None
@@ -50,7 +51,7 @@ abbrev pub latest : DescOf → List Entry → Key → Option Version
 latest desc journal key = version_made desc key (length (install_places journal key))
     (last_place journal key) (take (last_place journal key) journal)
 
--- the fresh deliveries are those behind entries after which each partition was settled
+-- the fresh deliveries are those after entries after which each partition was settled
 pub record AreFresh (desc : DescOf) (journal : JournalOf) : Type 0 where
   pub before : List Entry
   pub loads : journal.entries ≡ before ++ map entry.Load journal.fresh

@@ -1,6 +1,7 @@
 -- What a session line asks for. A line that is wrong, or of a form that is not built yet, is
 -- refused.
-use Rattle.std.specs.Prelude.{ℕ, ◌+◌, ◌^◌, List, [], ◌∷◌, Option, Some, None, Bool, ◌&&◌, nat_lt, nat_le, if◌then◌else◌, length, codes, slice_get, option_and_then}
+use Rattle.std.specs.Prelude.{ℕ, ◌+◌, ◌^◌, List, [], ◌∷◌, Option, Some, None, Bool, ◌&&◌, nat_lt}
+use Rattle.std.specs.Prelude.{nat_le, if◌then◌else◌, length, codes, slice_get, option_and_then}
 use Rattle.std.specs.Str.{bytes_eq}
 use Rattle.depot_cell.specs.Numbers.{number_of}
 use Rattle.table_desc.specs.Descriptions.{DescOf}
@@ -38,12 +39,12 @@ head_of desc feed number closes =
     (number_below (2 ^ 32) number))
     (find_feed desc feed)
 
--- a body follows where its size is a number, whatever else is wrong with the line
+-- a body follows if its size is a number, whatever else is wrong with the line
 abbrev pub sized : Option Head → Option ℕ → Order
 sized head None = order.Refused
 sized head (Some size) = if nat_lt BODY_LIMIT size then order.BigBody else order.Body head size
 
--- what the words behind `deliver` ask for
+-- what the words after `deliver` ask for
 abbrev pub deliver_order : DescOf → List (List ℕ) → Order
 deliver_order desc (feed ∷ number ∷ closes ∷ size ∷ []) =
     sized (head_of desc feed number closes) (number_of size)
@@ -61,7 +62,7 @@ item_of desc table from to =
     let item : Item = record { table = table; from = from; to = to; level = mark.Open } in
     if is_in_range desc item then Some item else None
 
--- the answer to a query, where it was read
+-- the answer to a query, if it was read
 abbrev pub asked : Option Item → Order
 asked None = order.Refused
 asked (Some item) = order.Query item
@@ -76,7 +77,7 @@ item_read desc table from to =
     (number_below (END + 1) from))
     (find_table desc table)
 
--- what the words behind `query` ask for
+-- what the words after `query` ask for
 abbrev pub query_order : DescOf → List (List ℕ) → Order
 query_order desc (table ∷ from ∷ to ∷ []) = asked (item_read desc table from to)
 query_order desc _ = order.Refused

@@ -1,5 +1,6 @@
 -- The reading of a script: what its bytes say, item by item, and how it ends.
-use Rattle.std.specs.Prelude.{ℕ, zero, suc, ◌+◌, ◌-◌, List, [], ◌∷◌, Option, Some, None, nat_lt, nat_le, if◌then◌else◌, length, take, drop, min}
+use Rattle.std.specs.Prelude.{ℕ, zero, suc, ◌+◌, ◌-◌, List, [], ◌∷◌, Option, Some, None, nat_lt}
+use Rattle.std.specs.Prelude.{nat_le, if◌then◌else◌, length, take, drop, min}
 use Rattle.std.specs.Io.BufRead.{first_line}
 use Rattle.depot_io.specs.Lines.{LIMIT, line_take, span}
 use Rattle.table_desc.specs.declared.delivery.DRow.{DRow}
@@ -23,7 +24,7 @@ pub data NextLine : Type 0 where
   Unreadable : InputEnd → (rest : List ℕ) → NextLine
   Line : (line rest : List ℕ) → NextLine
 
--- the next line, where the reader took this many bytes before these
+-- the next line, if the reader took this many bytes before these
 abbrev pub next_line : (taken : ℕ) → List ℕ → NextLine
 next_line taken bytes =
     if nat_le LIMIT (taken + line_take bytes) then Unreadable why.Long (drop (LIMIT - taken) bytes)
@@ -38,7 +39,7 @@ pub data NextBody : Type 0 where
   Unfinished : InputEnd → (rest : List ℕ) → NextBody
   Body : (body rest : List ℕ) → NextBody
 
--- the next body of this size, where the reader took this many bytes before these
+-- the next body of this size, if the reader took this many bytes before these
 abbrev pub next_body : (taken size : ℕ) → List ℕ → NextBody
 next_body taken size bytes =
     if nat_le LIMIT (taken + min size (length bytes))
@@ -61,7 +62,7 @@ pub record Opening : Type 0 where
 abbrev pub after_line : List ℕ → Opening → Opening
 after_line line opening = record opening { lines = line ∷ opening.lines }
 
--- the opening that begins with this line, where `more` reads on
+-- the opening that begins with this line, if `more` reads on
 abbrev pub opening_at : (more : List ℕ → Opening) → (taken : ℕ) → (bytes : List ℕ)
     → NextLine → Opening
 opening_at more taken bytes NoLine = record { lines = []; end = Broken why.NoGo taken [] }
@@ -71,7 +72,7 @@ opening_at more taken bytes (Line line rest) =
     if is_go (words line) then record { lines = []; end = Go (taken + line_take bytes) rest }
     else after_line line (more rest)
 
--- the opening of these bytes, in at most so many lines, where the reader took this many bytes
+-- the opening of these bytes, in at most so many lines, if the reader took this many bytes
 -- before
 abbrev pub opening_from : (turns taken : ℕ) → List ℕ → Opening
 opening_from zero taken bytes = record { lines = []; end = Broken why.NoGo taken [] }
@@ -90,17 +91,17 @@ pub data SessionEnd : Type 0 where
 
 -- the next step of a session: it ends, or there is something to do. Then `due` tells how many bytes
 -- are left at least as long as its last byte, the LF of its line or the last one of its body, was
--- not taken; and behind it stands what was taken in all, and what is left.
+-- not taken; and after it stands what was taken in all, and what is left.
 pub data Step : Type 0 where
   Ends : SessionEnd → Step
   Does : Work → (due taken : ℕ) → (rest : List ℕ) → Step
 
--- how many bytes are left at least as long as the LF of the line in front was not taken: none where
+-- how many bytes are left at least as long as the LF of the line in front was not taken: none if
 -- no LF follows
 abbrev pub line_due : List ℕ → ℕ
 line_due bytes = length bytes - span bytes
 
--- the same of a body of this size, in front of these bytes; where it is empty, of its line
+-- the same of a body of this size, in front of these bytes; if it is empty, of its line
 abbrev pub body_due : (due size : ℕ) → List ℕ → ℕ
 body_due due zero bytes = due
 body_due due (suc size) bytes = length bytes - size
@@ -116,14 +117,14 @@ abbrev pub body_work : DescOf → Option Head → List ℕ → Work
 body_work desc None body = work.Refused
 body_work desc (Some head) body = load_of head (rows_of desc head.feed body)
 
--- the step at a body of this size, behind its line
+-- the step at a body of this size, after its line
 abbrev pub body_step : DescOf → (base due taken : ℕ) → Option Head → (size : ℕ) → NextBody → Step
 body_step desc base due taken head size (Unfinished cause rest) =
     Ends (Stopped cause (base + taken) rest)
 body_step desc base due taken head size (Body body rest) =
     Does (body_work desc head body) due (taken + size) rest
 
--- the step that an order asks for, behind its line
+-- the step that an order asks for, after its line
 abbrev pub order_step : DescOf → (base due taken : ℕ) → Order → List ℕ → Step
 order_step desc base due taken order.Nothing rest = Does work.Nothing due taken rest
 order_step desc base due taken (order.Query item) rest = Does (work.Query item) due taken rest
@@ -158,7 +159,7 @@ abbrev pub after_item : Work → (due : ℕ) → Session → Session
 after_item item due session =
     record session { items = item ∷ session.items; dues = due ∷ session.dues }
 
--- the session that begins with this step, where `more` reads on
+-- the session that begins with this step, if `more` reads on
 abbrev pub session_at : (more : ℕ → List ℕ → Session) → Step → Session
 session_at more (Ends end) = record { items = []; dues = []; end = end }
 session_at more (Does item due taken rest) = after_item item due (more taken rest)
@@ -174,20 +175,20 @@ abbrev pub session : DescOf → (base : ℕ) → List ℕ → Session
 session desc base input = session_from desc base (suc (length input)) 0 input
 
 -- the reading of an input: the description cannot be read to its `go` line, it is not accepted,
--- or a session follows it; where none follows, with what is left
+-- or a session follows it; if none follows, with what is left
 pub data Script : Type 0 where
   Unopened : InputEnd → (place : ℕ) → (rest : List ℕ) → Script
   Misdescribed : (line : ℕ) → (rest : List ℕ) → Script
   Serving : DescOf → Session → Script
 
--- the script behind a description, at its `go` line
-abbrev pub script_behind : Described → (base : ℕ) → List ℕ → Option ℕ → Script
-script_behind before base rest None = Serving before.desc (session before.desc base rest)
-script_behind before base rest (Some line) = Misdescribed line rest
+-- the script after a description, at its `go` line
+abbrev pub script_after : Described → (base : ℕ) → List ℕ → Option ℕ → Script
+script_after before base rest None = Serving before.desc (session before.desc base rest)
+script_after before base rest (Some line) = Misdescribed line rest
 
 -- the script that an opening begins
 abbrev pub script_at : Described → OpeningEnd → Script
-script_at before (Go taken rest) = script_behind before taken rest before.bad
+script_at before (Go taken rest) = script_after before taken rest before.bad
 script_at before (Broken cause place rest) = Unopened cause place rest
 
 -- the reading of an input

@@ -11,9 +11,10 @@ use Rattle.view_meaning.specs.Shown.{shown}
 use Rattle.depot_cli.specs.declared.script.work.Work.{Work}
 use Rattle.depot_cli.specs.declared.script.work.Work.TheVariants as work
 use Rattle.depot_cli.specs.SerialJournal.{journal_after}
-use Rattle.depot_cli.specs.Texts.{feed_name, table_name, loaded_text, repeat_text, refused_text, drained_text, answer_text}
+use Rattle.depot_cli.specs.Texts.{feed_name, table_name, loaded_text, repeat_text, refused_text}
+use Rattle.depot_cli.specs.Texts.{drained_text, answer_text}
 
--- what loading a delivery behind a journal does
+-- what loading a delivery after a journal does
 abbrev pub loaded : DescOf → List Entry → DeliveryOf → Loaded
 loaded desc journal delivery = record {
   entry = length journal + 1;

@@ -1,5 +1,7 @@
 -- What a run answers, writes and leaves, by the reading of its input.
-use Rattle.std.specs.Prelude.{ℕ, ◌≡◌, ◌≤◌, ◌+◌, List, [], ◌∷◌, ◌++◌, Bool, true, false, ⊤, if◌then◌else◌, ◌||◌, ◌⊎◌, nat_le, length, take, drop, All, codes, Some, None}
+use Rattle.std.specs.Prelude.{ℕ, ◌≡◌, ◌≤◌, ◌+◌, List, [], ◌∷◌, ◌++◌, Bool, true, false, ⊤}
+use Rattle.std.specs.Prelude.{if◌then◌else◌, ◌||◌, ◌⊎◌, nat_le, length, take, drop, All, codes}
+use Rattle.std.specs.Prelude.{Some, None}
 use Rattle.std.specs.declared.option.Option.{Option}
 use Rattle.std.specs.Io.KnownBytes.{Appends}
 use Rattle.depot_io.specs.Causes.{Rose}
@@ -10,7 +12,8 @@ use Rattle.depot_cli.specs.declared.run.status.Status.TheVariants as status
 use Rattle.depot_cli.specs.declared.run.status.DescCause.TheVariants as cause
 use Rattle.depot_cli.specs.declared.run.status.InputEnd.{InputEnd}
 use Rattle.depot_cli.specs.declared.run.status.InputEnd.TheVariants as why
-use Rattle.depot_cli.specs.Reading.{Script, Unopened, Misdescribed, Serving, Session, SessionEnd, Ended, Stopped}
+use Rattle.depot_cli.specs.Reading.{Script, Unopened, Misdescribed, Serving, Session, SessionEnd}
+use Rattle.depot_cli.specs.Reading.{Ended, Stopped}
 use Rattle.table_desc.specs.Descriptions.{DescOf}
 use Rattle.depot_cli.specs.ScriptCalls.{IsLeftOf}
 use Rattle.depot_cli.specs.SerialJournal.{serial}
@@ -38,7 +41,7 @@ status_of (Unopened why place _) = status.Input why place
 status_of (Misdescribed line _) = status.BadDescription line cause.Later
 status_of (Serving desc session) = session_status session session.end
 
--- a status is the reading's, but for those of the devices and of memory, and of the command line
+-- a status is the reading's, except those of the devices, of memory and of the command line
 abbrev pub IsStatusOf : Script → Status → Type 0
 IsStatusOf script status.Usage = ⊤
 IsStatusOf script status.ReadFault = ⊤
@@ -79,18 +82,18 @@ replies_of (Misdescribed _ _) = []
 replies_of (Serving desc session) = replies desc 1 [] session.items
 
 -- what the end of a session leaves of its input
-abbrev pub left_behind : SessionEnd → List ℕ
-left_behind (Ended rest) = rest
-left_behind (Stopped _ _ rest) = rest
+abbrev pub left_after : SessionEnd → List ℕ
+left_after (Ended rest) = rest
+left_after (Stopped _ _ rest) = rest
 
 -- what a reading leaves of its input: what follows the `end` line, the `go` line of a bad
 -- description or what could not be read on, or nothing
 abbrev pub left_of : Script → List ℕ
 left_of (Unopened _ _ rest) = rest
 left_of (Misdescribed _ rest) = rest
-left_of (Serving desc session) = left_behind session.end
+left_of (Serving desc session) = left_after session.end
 
--- the reply to the item of a session with this number, from 0; and nothing where there is none
+-- the reply to the item of a session with this number, from 0; and nothing if there is none
 abbrev pub reply_at : DescOf → Session → (number : ℕ) → List ℕ
 reply_at desc session number = replies desc (1 + number)
     (serial desc [] (take number session.items)) (take 1 (drop number session.items))
@@ -109,7 +112,7 @@ pub record GainsFront (desc : DescOf) (session : Session) (got_before got_now : 
       (first_replies desc session many ++ take front (reply_at desc session many))
 
 -- the sink has gained the whole replies to the first so many items, and the last byte of each item
--- behind them was not taken
+-- after them was not taken
 pub record GainsTaken (desc : DescOf) (session : Session)
     (got_before got_now left_now : Option (List ℕ)) : Type 0 where
   pub many : ℕ
@@ -130,8 +133,8 @@ GainsTakenOf (Misdescribed _ _) got_before got_now left_now = Appends got_before
 GainsTakenOf (Serving desc session) got_before got_now left_now =
     GainsTaken desc session got_before got_now left_now
 
--- what a run has put into the sink, by how it ended: the replies to all items, where it came to the
--- end of its reading; nothing, where the command line or the description was not accepted; else the
+-- what a run has put into the sink, by how it ended: the replies to all items, if it came to the
+-- end of its reading; nothing, if the command line or the description was not accepted; else the
 -- replies to the items before the one at which it ended
 abbrev pub Gains : Script → (got_before got_now left_now : Option (List ℕ)) → Status → Type 0
 Gains script before now left status.Done = Appends before now (replies_of script)
@@ -163,7 +166,7 @@ abbrev pub IsWriteCause : (before now : ℕ) → Status → Type 0
 IsWriteCause before now status.WriteFault = Rose before now
 IsWriteCause before now _ = now ≡ before
 
--- a run tells of a fault of a device exactly where that counted one
+-- a run tells of a fault of a device exactly if that counted one
 pub record HasRunCauses (reads_before reads_now writes_before writes_now : ℕ)
     (ended : Status) : Type 0 where
   pub read : IsReadCause reads_before reads_now ended

@@ -1,5 +1,6 @@
 -- What the calls that read a script answer, by its reading.
-use Rattle.std.specs.Prelude.{ℕ, ◌≡◌, ◌≤◌, ◌<◌, ◌-◌, List, [], Option, Some, None, length, Bool, true, false, Result, Ok, Err, ⊤}
+use Rattle.std.specs.Prelude.{ℕ, ◌≡◌, ◌≤◌, ◌<◌, ◌-◌, List, [], Option, Some, None, length, Bool}
+use Rattle.std.specs.Prelude.{true, false, Result, Ok, Err, ⊤}
 use Rattle.std.specs.Io.KnownBytes.{Appends}
 use Rattle.depot_io.specs.Causes.{Rose}
 use Rattle.depot_io.specs.Puts.{GainsPrefix, HasRoomFor, room_after}
@@ -14,7 +15,9 @@ use Rattle.table_desc.specs.Descriptions.{DescOf}
 use Rattle.depot_cli.specs.SerialJournal.{journal_after}
 use Rattle.depot_cli.specs.KeptJournals.{IsCutShort, JournalOf}
 use Rattle.table_desc.specs.Grammar.{Described, described}
-use Rattle.depot_cli.specs.Reading.{NextLine, NoLine, Unreadable, Line, NextBody, Unfinished, Body, Opening, OpeningEnd, Go, Broken, Step, Ends, Does, Ended, Stopped}
+use Rattle.depot_cli.specs.Reading.{NextLine, NoLine, Unreadable, Line, NextBody, Unfinished, Body}
+use Rattle.depot_cli.specs.Reading.{Opening, OpeningEnd, Go, Broken, Step, Ends, Does, Ended}
+use Rattle.depot_cli.specs.Reading.{Stopped}
 
 -- known bytes are these
 abbrev pub IsLeft : Option (List ℕ) → List ℕ → Type 0
@@ -26,7 +29,7 @@ IsLeftOf None count = ⊥
 IsLeftOf (Some bytes) count = count ≤ length bytes
 
 -- the answer for a next line at a place: whether there is one, which it is, and what is left
--- behind it; after a fault of the source so much is left at least as is due
+-- after it; after a fault of the source so much is left at least as is due
 abbrev pub IsNextLine : NextLine → (due place : ℕ) → (line : List ℕ)
     → (left : Option (List ℕ)) → Result Bool ScriptFault → Type 0
 IsNextLine next due place line left (Ok true) =
@@ -41,7 +44,7 @@ IsNextLine next due place line left (Err Memory) = ⊥
 abbrev pub IsBodyUndone : (size : ℕ) → List ℕ → (left : Option (List ℕ)) → Type 0
 IsBodyUndone size bytes left = (0 < size) × IsLeftOf left (length bytes - (size - 1))
 
--- the answer for a next body at a place: which it is, and what is left behind it; after a fault of
+-- the answer for a next body at a place: which it is, and what is left after it; after a fault of
 -- the source its last byte was not taken
 abbrev pub IsNextBody : NextBody → (size place : ℕ) → (bytes body : List ℕ)
     → (left : Option (List ℕ)) → Result (Unit {0}) ScriptFault → Type 0
@@ -52,12 +55,12 @@ IsNextBody next size place bytes body left (Err (Input why at)) =
 IsNextBody next size place bytes body left (Err ReadFault) = IsBodyUndone size bytes left
 IsNextBody next size place bytes body left (Err Memory) = ⊤
 
--- no byte behind the `go` line was taken
+-- no byte after the `go` line was taken
 abbrev pub IsBeforeGo : OpeningEnd → Option (List ℕ) → Type 0
 IsBeforeGo (Go taken rest) left = IsLeftOf left (length rest)
 IsBeforeGo (Broken why place rest) left = ⊤
 
--- the answer for an opening: what its lines describe, and what was taken and is left behind it
+-- the answer for an opening: what its lines describe, and what was taken and is left after it
 abbrev pub IsOpening : Opening → (taken : ℕ) → (left : Option (List ℕ))
     → Result Described ScriptFault → Type 0
 IsOpening opening taken left (Ok before) = (rest : List ℕ)
@@ -72,7 +75,7 @@ abbrev pub IsUndone : Step → Option (List ℕ) → Type 0
 IsUndone (Ends end) left = ⊤
 IsUndone (Does work due taken rest) left = IsLeftOf left due
 
--- what a step does, with what was taken and is left behind it
+-- what a step does, with what was taken and is left after it
 pub record IsDone (step : Step) (taken : ℕ) (left : Option (List ℕ)) (work : Work) : Type 0 where
   pub due : ℕ
   pub rest : List ℕ
@@ -90,7 +93,7 @@ IsStep step taken left (Err (Input why place)) =
 IsStep step taken left (Err ReadFault) = IsUndone step left
 IsStep step taken left (Err Memory) = ⊤
 
--- the count of the source's faults rose where the source is blamed, and else stayed
+-- the count of the source's faults rose if the source is blamed, and otherwise stayed
 abbrev pub IsScriptCause : {T : Type 0} → (before now : ℕ) → Result T ScriptFault → Type 0
 IsScriptCause before now (Err ReadFault) = Rose before now
 IsScriptCause before now (Err (Input _ _)) = now ≡ before
@@ -124,7 +127,7 @@ IsReplyCause before now (Err (status.BadDescription _ _)) = ⊥
 IsReplyCause before now (Err (status.Input _ _)) = ⊥
 IsReplyCause before now (Err status.ReadFault) = ⊥
 
--- what the sink has gained of a reply: all of it; where it failed, a front short of all; and where
+-- what the sink has gained of a reply: all of it; if it failed, a front short of all; and if
 -- there was no memory, nothing
 abbrev pub IsReplied : {T : Type 0} → (before now : Option (List ℕ)) → (reply : List ℕ)
     → Result T Status → Type 0

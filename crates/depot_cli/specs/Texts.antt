@@ -1,5 +1,6 @@
 -- The texts of the replies. Each line ends with LF, and numbers are in the shortest decimal form.
-use Rattle.std.specs.Prelude.{ℕ, List, [], ◌∷◌, ◌++◌, codes, decimal, length, map, flat_map, slice_get, Option, Some, None}
+use Rattle.std.specs.Prelude.{ℕ, List, [], ◌∷◌, ◌++◌, codes, decimal, length, map, flat_map}
+use Rattle.std.specs.Prelude.{slice_get, Option, Some, None}
 use Rattle.csv.specs.Writing.{row_text, default_writer}
 use Rattle.depot_cell.specs.declared.cell.Cell.{Cell}
 use Rattle.depot_cell.specs.Spelling.{text_of}
@@ -16,12 +17,12 @@ use Rattle.view_meaning.specs.Shown.{ShownPart}
 abbrev pub line_end : List ℕ
 line_end = 10 ∷ []
 
--- the name of a feed, and nothing where there is none
+-- the name of a feed, and nothing if there is none
 abbrev pub name_of_feed : Option Feed → List ℕ
 name_of_feed None = []
 name_of_feed (Some feed) = feed.name
 
--- the name of a table, and nothing where there is none
+-- the name of a table, and nothing if there is none
 abbrev pub name_of : Option TableOf → List ℕ
 name_of None = []
 name_of (Some table) = table.name

@@ -3,7 +3,8 @@
 pub mod rows_text;
 pub mod texts;
 
-ghost use Rattle.std.specs.Prelude.{◌≡◌, ◌+◌, ◌<◌, ◌≤◌, ◌^◌, ◌++◌, true, false, length, map, flat_map, IfOk, OnErr, OnOk, slice_get, option_copied, Some};
+ghost use Rattle.std.specs.Prelude.{◌≡◌, ◌+◌, ◌<◌, ◌≤◌, ◌^◌, ◌++◌, true, false, length, map};
+ghost use Rattle.std.specs.Prelude.{flat_map, IfOk, OnErr, OnOk, slice_get, option_copied, Some};
 ghost use Rattle.table_desc.specs.Time.{END};
 ghost use Rattle.view_meaning.specs.Shown.{shown, shown_part};
 ghost use Rattle.view_meaning.specs.Versions.{is_raw_kind};
@@ -14,7 +15,8 @@ ghost use Rattle.depot_cli.specs.declared.script.work.Work.TheVariants as work;
 ghost use Rattle.depot_cli.specs.ScriptCalls.{IsAnswerable};
 ghost use Rattle.depot_cli.specs.KeptJournals.{DrainsSome, IsCutShort, IsKept};
 ghost use Rattle.depot_cli.specs.SerialJournal.{journal_after};
-ghost use Rattle.depot_cli.specs.Texts.{answer_text, drained_text, feed_name, shown_text, table_name};
+ghost use Rattle.depot_cli.specs.Texts.{answer_text, drained_text, feed_name, shown_text};
+ghost use Rattle.depot_cli.specs.Texts.{table_name};
 ghost use Rattle.depot_cli.specs.Replies.{load_reply, reply};
 
 use crate::book::drain::drain;
@@ -102,7 +104,7 @@ fn drain_text(alloc: Global, served: &Served, journal: &mut Journal) -> Result<V
 
 /// The name of a feed.
 fn feed_name(served: &Served, feed: u16) -> &[u8]
-    ensures { result.now ≡ feed_name served.now.desc feed }
+    ensures exact { result.now ≡ feed_name served.now.desc feed }
 {
     match served.desc.feeds.get(feed as usize) {
         Some(feed) => feed.name.as_bytes(),
@@ -136,12 +138,12 @@ fn query_text(
 
 /// The table with this number.
 fn table_at(served: &Served, number: u16) -> Option<&Table>
-    ensures { option_copied result ≡ slice_get served.now.desc.tables number }
+    ensures exact { option_copied result ≡ slice_get served.now.desc.tables number }
 {
     served.desc.tables.get(number as usize)
 }
 
-/// Puts a run of partitions of a table behind a text.
+/// Puts a run of partitions of a table after a text.
 fn put_parts(
     alloc: Global,
     served: &Served,
@@ -165,10 +167,7 @@ fn put_parts(
             part,
         };
         let shown = shown_text(alloc, served, journal, table, key)?;
-        match text.extend_from_slice(&shown) {
-            Ok(()) => {}
-            Err(_) => return Err(Memory),
-        }
+        text.extend_from_slice(&shown)?;
     }
     Ok(())
 }
@@ -265,15 +264,13 @@ fn part_and_rows(
     let count = rows.rows().len() as u64;
     let mut text = part_text(alloc, table.name.as_bytes(), item, count)?;
     let rows = rows_text(alloc, rows)?;
-    match text.extend_from_slice(&rows) {
-        Ok(()) => Ok(text),
-        Err(_) => Err(Memory),
-    }
+    text.extend_from_slice(&rows)?;
+    Ok(text)
 }
 
 /// Whether a table is raw.
 fn is_raw(kind: &Kind) -> bool
-    ensures { result ≡ is_raw_kind (kind_of kind.now) }
+    ensures exact { result ≡ is_raw_kind (kind_of kind.now) }
 {
     matches!(kind, Kind::Raw { .. })
 }

@@ -20,12 +20,12 @@ use depot_io::{LineReader, Sink, Source};
 use std::alloc::Global;
 use table_desc::{Draft, Served};
 
-/// Runs a command: `words` are those behind the folder. The one command is `trial`. It reads a
+/// Runs a command: `words` are those after the folder. The one command is `trial`. It reads a
 /// description up to its `go` line and then session lines off the source, and puts the replies
 /// into the sink. Other words are Usage, and nothing is read or written.
 ///
 /// A run that ends early has put the whole replies to the items before the one at which it ended;
-/// where the sink failed, a front of that one's reply too. After a fault of the source no other
+/// if the sink failed, a front of that one's reply too. After a fault of the source no other
 /// item was taken to its last byte.
 pub fn run<S: Source, O: Sink>(
     alloc: Global,
@@ -51,7 +51,7 @@ pub fn run<S: Source, O: Sink>(
 
 /// Whether the words are the command `trial`.
 fn is_trial(words: &[String]) -> bool
-    ensures { result ≡ is_trial (map string_bytes words.now) }
+    ensures exact { result ≡ is_trial (map string_bytes words.now) }
 {
     match words {
         [word] => word.as_bytes() == b"trial".as_slice(),

@@ -3,15 +3,18 @@
 pub mod order;
 pub mod work;
 
-ghost use Rattle.std.specs.Prelude.{◌≡◌, ◌+◌, ◌≤◌, ◌<◌, length, IfSome, IfOk, IfErr, OnOk, OnSome, Ok, true};
+ghost use Rattle.std.specs.Prelude.{◌≡◌, ◌+◌, ◌≤◌, ◌<◌, length, IfSome, IfOk, IfErr, OnOk, OnSome};
+ghost use Rattle.std.specs.Prelude.{Ok, true};
 ghost use Rattle.depot_io.specs.Lines.{LIMIT, line_take};
 ghost use Rattle.depot_io.specs.Reading.{ReadsOn};
 ghost use Rattle.table_desc.specs.Words.{words};
 ghost use Rattle.table_desc.specs.Grammar.{is_go};
 ghost use Rattle.depot_cli.specs.Orders.{BODY_LIMIT};
-ghost use Rattle.depot_cli.specs.Reading.{line_due, next_line, next_body, body_work as work_of_body, step_of, opening};
+ghost use Rattle.depot_cli.specs.Reading.{line_due, next_line, next_body};
+ghost use Rattle.depot_cli.specs.Reading.{body_work as work_of_body, step_of, opening};
 ghost use Rattle.depot_cli.specs.Runs.{EndsSession};
-ghost use Rattle.depot_cli.specs.ScriptCalls.{status_of_fault, IsAnswerable, IsNextLine, IsNextBody, IsOpening, IsStep, IsScriptCause};
+ghost use Rattle.depot_cli.specs.ScriptCalls.{status_of_fault, IsAnswerable, IsNextLine};
+ghost use Rattle.depot_cli.specs.ScriptCalls.{IsNextBody, IsOpening, IsStep, IsScriptCause};
 
 use crate::run::status::InputEnd;
 use crate::script::order::{Head, Order, read_order};
@@ -133,7 +136,7 @@ fn body_work(
     }
 }
 
-/// Takes what the next line asks for, with its body; nothing where the session ends, at the end
+/// Takes what the next line asks for, with its body; nothing if the session ends, at the end
 /// of the input or at the word `end`. `body` is room that is used again.
 pub fn next_work<S: Source>(
     alloc: Global,
@@ -175,7 +178,7 @@ pub fn next_work<S: Source>(
 
 /// Whether a line ends a description: its only word is `go`.
 fn is_go_line(alloc: Global, line: &[u8]) -> Result<bool, Memory>
-    ensures { IfOk result (λ goes. goes ≡ is_go (words line.now)) }
+    ensures exact { IfOk result (λ goes. goes ≡ is_go (words line.now)) }
 {
     let words = words_of(alloc, line)?;
     Ok(is_go(&words))

@@ -4,7 +4,8 @@
 //! the look for a number that was accepted before. Beside the entries stands the latest version of
 //! each partition of a view, and where the deliveries begin that came since the last drain.
 
-ghost use Rattle.std.specs.Prelude.{Some, ◌≡◌, ◌+◌, ◌∷◌, ◌++◌, ◌<◌, ◌≤◌, ◌^◌, [], length, option_copied, OnOk, OnErr, if◌then◌else◌};
+ghost use Rattle.std.specs.Prelude.{Some, ◌≡◌, ◌+◌, ◌∷◌, ◌++◌, ◌<◌, ◌≤◌, ◌^◌, [], length};
+ghost use Rattle.std.specs.Prelude.{option_copied, OnOk, OnErr, if◌then◌else◌};
 ghost use Rattle.std.specs.List.{list_any};
 ghost use Rattle.std.specs.Ordering.{is_eq};
 ghost use Rattle.table_desc.specs.declared.table.Key.{Key as KeyOf};
@@ -73,14 +74,14 @@ impl Journal {
 
     /// The accepted deliveries, in order.
     pub fn accepted(&self) -> &[Delivery]
-        ensures { result.now ≡ accepted self.now.entries }
+        ensures exact { result.now ≡ accepted self.now.entries }
     {
         self.accepted.as_slice()
     }
 
     /// Whether the delivery's feed has accepted its number. It scans: a later journal looks it up.
     pub fn has(&self, delivery: &Delivery) -> bool
-        ensures { result ≡ is_repeat self.now.entries delivery.now }
+        ensures exact { result ≡ is_repeat self.now.entries delivery.now }
     {
         is_among(self.accepted(), delivery)
     }
@@ -94,14 +95,8 @@ impl Journal {
         ensures versions { OnOk result (self.new.versions ≡ self.old.versions) }
         ensures err { OnErr result (self.new ≡ self.old) }
     {
-        match self.order.reserve(1) {
-            Ok(()) => {}
-            Err(_) => return Err(Memory),
-        }
-        match self.accepted.push(delivery) {
-            Ok(()) => {}
-            Err(_) => return Err(Memory),
-        }
+        self.order.reserve(1)?;
+        self.accepted.push(delivery)?;
         match self.order.push(Step::Load) {
             Ok(()) => Ok(()),
             Err(_) => unreachable!(),
@@ -110,21 +105,21 @@ impl Journal {
 
     /// The deliveries that came since the last drain, in order.
     pub fn fresh(&self) -> &[Delivery]
-        ensures { result.now ≡ self.now.fresh }
+        ensures exact { result.now ≡ self.now.fresh }
     {
         &self.accepted[self.seen..]
     }
 
     /// The latest version of a view's partition.
     pub fn latest(&self, key: Key) -> Option<&Version>
-        ensures { option_copied result ≡ latest_in self.now.versions key }
+        ensures exact { option_copied result ≡ latest_in self.now.versions key }
     {
         self.versions.latest(key)
     }
 
-    /// The number of the latest version of a view's partition, and 0 where there is none.
+    /// The number of the latest version of a view's partition, and 0 if there is none.
     fn number(&self, key: Key) -> u64
-        ensures { result ≡ number_in (latest_in self.now.versions key) }
+        ensures exact { result ≡ number_in (latest_in self.now.versions key) }
     {
         match self.latest(key) {
             Some(version) => version.number,
@@ -148,10 +143,7 @@ impl Journal {
     {
         let at = self.len();
         let number = self.number(key) + 1;
-        match self.order.reserve(1) {
-            Ok(()) => {}
-            Err(_) => return Err(Memory),
-        }
+        self.order.reserve(1)?;
         self.versions.put(key, Version { number, at, rows })?;
         match self.order.push(Step::Install { key, at }) {
             Ok(()) => Ok(()),
@@ -171,7 +163,7 @@ impl Journal {
 
 /// Whether one of the deliveries has the feed and the number of this one.
 fn is_among(deliveries: &[Delivery], delivery: &Delivery) -> bool
-    ensures { result ≡ list_any (is_same delivery.now) deliveries.now }
+    ensures exact { result ≡ list_any (is_same delivery.now) deliveries.now }
 {
     deliveries.iter().any(|other| other.feed == delivery.feed && other.number == delivery.number)
 }

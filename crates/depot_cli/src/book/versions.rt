@@ -32,16 +32,16 @@ impl Model for Versions {
 impl Versions {
     /// No version.
     pub fn new(alloc: Global) -> Versions
-        ensures { result ≡ [] }
+        ensures exact { result ≡ [] }
     {
         Versions {
             latest: BTreeMap::new(alloc),
         }
     }
 
-    /// The latest version of a partition, where there is one.
+    /// The latest version of a partition, if there is one.
     pub fn latest(&self, key: Key) -> Option<&Version>
-        ensures { option_copied result ≡ latest_in self.now key }
+        ensures exact { option_copied result ≡ latest_in self.now key }
     {
         self.latest.get(&key)
     }

@@ -9,7 +9,7 @@ use csv::{ByteRecord, WriterBuilder};
 use depot_cell::{Memory, Row, Rows, cell_text};
 use std::alloc::Global;
 
-/// The rows as CSV, in order: each one a line that ends with LF, with quotes where CSV needs them.
+/// The rows as CSV, in order: each one a line that ends with LF, with quotes if CSV needs them.
 pub fn rows_text(alloc: Global, rows: &Rows) -> Result<Vec<u8>, Memory>
     ensures exact { IfOk result (λ text. text.items ≡ rows_text rows.now) }
 {
@@ -37,9 +37,7 @@ fn put_cells(alloc: Global, row: &Row, fields: &mut ByteRecord) -> Result<(), Me
     fields.clear();
     for cell in row.cells() {
         let text = cell_text(alloc, cell)?;
-        if fields.push_field(text.as_slice()).is_err() {
-            return Err(Memory);
-        }
+        fields.push_field(text.as_slice())?;
     }
     Ok(())
 }

@@ -1,9 +1,10 @@
 //! The texts of the replies. Their forms stand in `docs/FORMATS.md`.
 //!
-//! Names are bytes. Each text is whole lines, and nothing is answered but for want of memory.
+//! Names are bytes. Each text is whole lines, and only want of memory is answered in place of one.
 
 ghost use Rattle.std.specs.Prelude.{List, ℕ, ◌≡◌, ◌++◌, [], IfOk, decimal};
-ghost use Rattle.depot_cli.specs.Texts.{answer_line, drained_text, line_end, loaded_text, mark_text, part_text, refused_text, repeat_text};
+ghost use Rattle.depot_cli.specs.Texts.{answer_line, drained_text, line_end, loaded_text};
+ghost use Rattle.depot_cli.specs.Texts.{mark_text, part_text, refused_text, repeat_text};
 
 use depot_cell::Memory;
 use std::alloc::Global;
@@ -24,32 +25,28 @@ impl Model for Line {
 
 impl Line {
     fn new(alloc: Global) -> Line
-        ensures { result ≡ [] }
+        ensures exact { result ≡ [] }
     {
         Line {
             bytes: Vec::new(alloc),
         }
     }
 
-    /// The line with a word behind it.
+    /// The line with a word after it.
     fn word(self, word: &[u8]) -> Result<Line, Memory>
         ensures exact { IfOk result (λ line. line ≡ self ++ word.now) }
     {
         let mut bytes = self.bytes;
-        match bytes.extend_from_slice(word) {
-            Ok(()) => Ok(Line { bytes }),
-            Err(_) => Err(Memory),
-        }
+        bytes.extend_from_slice(word)?;
+        Ok(Line { bytes })
     }
 
-    /// The line with a number behind it, in the shortest decimal form.
+    /// The line with a number after it, in the shortest decimal form.
     fn number(self, alloc: Global, number: u64) -> Result<Line, Memory>
         ensures exact { IfOk result (λ line. line ≡ self ++ decimal number) }
     {
-        match number.to_string(alloc) {
-            Ok(text) => self.word(text.as_bytes()),
-            Err(_) => Err(Memory),
-        }
+        let text = number.to_string(alloc)?;
+        self.word(text.as_bytes())
     }
 
     /// The line with its end.

@@ -4,7 +4,8 @@ ghost use Rattle.std.specs.Prelude.{◌≡◌, ◌≤◌, [], IfErr, IfSome, OnO
 ghost use Rattle.depot_io.specs.Causes.{Rose};
 ghost use Rattle.depot_io.specs.Lines.{LIMIT};
 ghost use Rattle.depot_cli.specs.Reading.{Serving, session};
-ghost use Rattle.depot_cli.specs.ScriptCalls.{IsAnswerable, IsItemCut, IsReplied, IsReplyCause, IsReplyRoom, status_of_fault};
+ghost use Rattle.depot_cli.specs.ScriptCalls.{IsAnswerable, IsItemCut, IsReplied, IsReplyCause};
+ghost use Rattle.depot_cli.specs.ScriptCalls.{IsReplyRoom, status_of_fault};
 ghost use Rattle.depot_cli.specs.SerialJournal.{journal_after};
 ghost use Rattle.depot_cli.specs.KeptJournals.{IsKept};
 ghost use Rattle.depot_cli.specs.Replies.{is_refused, reply};
@@ -88,7 +89,7 @@ fn serve_items<S: Source, O: Sink>(
 }
 
 /// Does what an item asks for, and puts the reply into the sink. Where that fails the sink has got
-/// a front of the reply, and where there was no memory nothing.
+/// a front of the reply, and if there was no memory nothing.
 fn serve_item<O: Sink>(
     alloc: Global,
     served: &Served,
@@ -121,7 +122,7 @@ fn serve_item<O: Sink>(
 
 /// Whether an item is refused.
 fn is_refused(work: &Work) -> bool
-    ensures { result ≡ is_refused work.now }
+    ensures exact { result ≡ is_refused work.now }
 {
     match work {
         Work::Refused => true,
@@ -131,7 +132,7 @@ fn is_refused(work: &Work) -> bool
 
 /// The status of a session that was read to its end.
 fn end_of(refused: bool) -> Status
-    ensures { result ≡ (if refused then Status.Refused else Status.Done) }
+    ensures exact { result ≡ (if refused then Status.Refused else Status.Done) }
 {
     if refused {
         Status::Refused
@@ -142,7 +143,7 @@ fn end_of(refused: bool) -> Status
 
 /// The status of a script that was not read on.
 pub fn status_of(fault: ScriptFault) -> Status
-    ensures { result ≡ status_of_fault fault }
+    ensures exact { result ≡ status_of_fault fault }
 {
     match fault {
         ScriptFault::Input { why, place } => Status::Input { why, place },

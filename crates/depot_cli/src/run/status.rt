@@ -75,7 +75,7 @@ impl Status {
     }
 }
 
-/// The line that is printed to standard error where the code is 2 or more.
+/// The line that is printed to standard error if the code is 2 or more.
 impl fmt::Display for Status {
     fn fmt<W: fmt::Write>(&self, f: &mut fmt::Formatter<W>) -> fmt::Result {
         match self {

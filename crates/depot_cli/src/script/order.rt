@@ -6,7 +6,9 @@ ghost use Rattle.table_desc.specs.Sources.{width_of};
 ghost use Rattle.table_desc.specs.Time.{END as the_end};
 ghost use Rattle.view_meaning.specs.Partitions.{parts_met};
 ghost use Rattle.table_desc.specs.Words.{is_empty};
-ghost use Rattle.depot_cli.specs.Orders.{deliver_order, asked, head_of, item_of, item_read, number_below, order_of, order_of_words, query_order, sized};
+ghost use Rattle.depot_cli.specs.Orders.{deliver_order, asked, head_of, item_of, item_read};
+ghost use Rattle.depot_cli.specs.Orders.{number_below, order_of, order_of_words, query_order};
+ghost use Rattle.depot_cli.specs.Orders.{sized};
 
 use depot_cell::{Memory, read_number};
 use std::alloc::Global;
@@ -39,7 +41,7 @@ pub enum Order {
     End,
     /// The line is of a form that is not built yet, or is wrong in one. No body follows it.
     Refused,
-    /// A body of `size` bytes, up to 16,777,216, follows the line. It is a delivery's where
+    /// A body of `size` bytes, up to 16,777,216, follows the line. It is a delivery's if
     /// `head` is there; else the line is refused as `Refused` is, and the body is passed over.
     Body { head: Option<Head>, size: u64 },
     /// A body of more than 16,777,216 bytes was announced.

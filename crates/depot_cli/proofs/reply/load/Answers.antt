@@ -12,7 +12,7 @@ returns-clause-exact c =
     c.in_ok-text.ensures.exact
     ∙ ap (λ (name : List ℕ). loaded_text name inside.number
     (record { entry = c.len.result + 1; kept = c.len-2.result; aside = 0 }))
-    c.feed_name-feed.ensures
+    c.feed_name-feed.ensures.exact
     ∙ ap (λ (place : ℕ). loaded_text (feed_name c.args.served.now.desc inside.feed) inside.number
     (record { entry = place + 1; kept = c.len-2.result; aside = 0 })) c.len.ensures.exact
     ∙ ap (λ (rows : ℕ). loaded_text (feed_name c.args.served.now.desc inside.feed) inside.number (record {
@@ -29,10 +29,10 @@ returns-clause-exact c =
     }))
     c.delivery.view_is
     ∙ sym (load_reply-new c.args.served.now.desc c.args.journal.now.entries c.args.delivery
-    (sym c.has.ensures ∙ c.if-has.false))
+    (sym c.has.ensures.exact ∙ c.if-has.false))
 
 pub returns-clause-kept : goal.returns-clause-kept
 returns-clause-kept c =
     IsKept-load c.args.served.now.desc c.args.journal.now c.load.new.self c.args.delivery c.requires.kept
-    (sym c.has.ensures ∙ c.if-has.false) c.in_ok-load.ensures.entries c.in_ok-load.ensures.fresh
+    (sym c.has.ensures.exact ∙ c.if-has.false) c.in_ok-load.ensures.entries c.in_ok-load.ensures.fresh
     c.in_ok-load.ensures.versions

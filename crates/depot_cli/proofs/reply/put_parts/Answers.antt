@@ -6,7 +6,7 @@ use Rattle.depot_cli.proofs.reply.put_parts.Goals as goal
 
 pub parts-preserved : goal.parts-preserved
 parts-preserved c =
-    c.in-Ok.ensures.items
+    c.in_ok-extend_from_slice.ensures.items
     ∙ ap (λ (shown : List ℕ). c.parts.text.items ++ shown)
     (c.deref.ensures.value ∙ c.in_ok-shown.ensures.exact)
     ∙ parts-more c.args.table.now.name

@@ -1,4 +1,4 @@
--- The partitions so far stand behind the text.
+-- The partitions so far stand after the text.
 use Rattle.std.proofs.Common.{◌≡◌, ◌-◌, ◌++◌, map}
 use Rattle.std.specs.Prelude.{flat_map}
 use Rattle.std.specs.List.{range_with_len}

@@ -13,7 +13,7 @@ pub returns-in-None : goal.returns-in-None
 returns-in-None c = record {
   exact = rw (
     answer_text-none c.args.served.now.desc c.args.journal.now.entries c.args.item _ _
-        (sym c.in-None.ensures),
+        (sym c.in-None.ensures.exact),
     ← c.len.ensures.exact,
   )
       c.answer_line.ensures.exact;
@@ -21,7 +21,7 @@ returns-in-None c = record {
 
 pub returns : goal.returns
 returns c =
-    let there = sym c.in-Some.ensures in
+    let there = sym c.in-Some.ensures.exact in
     let run : parts_met c.in-Some.table.now.width c.args.item.from c.args.item.to
     ≡ range_with_len c.parts_of_span-parts.result.first c.parts_of_span-parts.result.count =
     ap (λ (table : TableOf). parts_met table.width c.args.item.from c.args.item.to)

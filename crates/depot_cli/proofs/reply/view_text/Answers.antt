@@ -13,7 +13,7 @@ returns-in-Some c =
     shown_part-view c.args.served.now.desc c.args.journal.now.entries c.args.key
     (rw c.requires.there c.requires.view)
     ∙ ap (shown_version c.args.key) (sym (c.requires.kept.latest c.args.key)
-    ∙ sym c.latest.ensures ∙ ap option_copied c.in-Some.is) in
+    ∙ sym c.latest.ensures.exact ∙ ap option_copied c.in-Some.is) in
     record {
       exact = subst (λ (shown : ShownPart). IfOk c.part_and_rows.result
           (λ text. text.items ≡ shown_text c.args.table.now.name shown))
@@ -27,7 +27,7 @@ returns-in-None c =
     shown_part-view c.args.served.now.desc c.args.journal.now.entries c.args.key
     (rw c.requires.there c.requires.view)
     ∙ ap (shown_version c.args.key) (sym (c.requires.kept.latest c.args.key)
-    ∙ sym c.latest.ensures ∙ ap option_copied c.in-None.is) in
+    ∙ sym c.latest.ensures.exact ∙ ap option_copied c.in-None.is) in
     record {
       exact = subst (λ (shown : ShownPart). IfOk c.part_and_rows-in-None-2.result
           (λ text. text.items ≡ shown_text c.args.table.now.name shown))

@@ -1,4 +1,4 @@
--- The run is that of the session behind the description, where that was read.
+-- The run is that of the session after the description, if that was read.
 use Rattle.std.proofs.Common.{sym, ◌∙◌, Some}
 use Rattle.std.proofs.lemmas.Option.{IfSome_then}
 use Rattle.depot_cli.proofs.RunLemmas.{IsRun-misdescribed, IsRun-opened, IsRun-unopened}
@@ -13,7 +13,7 @@ returns-clause-run g c =
 
 pub returns-in-Err-clause-run : goal.returns-in-Err-clause-run
 returns-in-Err-clause-run g c =
-    rw c.status_of.ensures (IfSome_then _ c.in-Err.ensures.answer (λ input breaks.
+    rw c.status_of.ensures.exact (IfSome_then _ c.in-Err.ensures.answer (λ input breaks.
     IsRun-unopened input (g.O.Sink.bytes_got c.args.sink.now)
     (g.S.Source.bytes_left c.open.new.source) (g.O.Sink.room c.args.sink.now) c.in-Err.fault
     breaks))

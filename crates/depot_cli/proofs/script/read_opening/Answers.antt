@@ -6,12 +6,13 @@ use Rattle.table_desc.specs.Grammar.{Described, is_go, with_line}
 use Rattle.depot_cli.specs.Reading.{opening}
 use Rattle.depot_io.proofs.ReadingLemmas.{ReadsOn-same, ReadsOn-step}
 use Rattle.depot_cli.proofs.KnownLemmas.{Err-passed}
-use Rattle.depot_cli.proofs.OpeningLemmas.{HasOpened-fault, HasOpened-go, HasOpened-init, HasOpened-line, lines-with_line}
+use Rattle.depot_cli.proofs.OpeningLemmas.{HasOpened-fault, HasOpened-go, HasOpened-start}
+use Rattle.depot_cli.proofs.OpeningLemmas.{HasOpened-line, lines-with_line}
 use Rattle.depot_cli.proofs.script.read_opening.Goals as goal
 
 pub lines-init : goal.lines-init
 lines-init g c = record {
-  opened = rw c.requires.start (HasOpened-init _ _ c.new-draft.ensures.exact);
+  opened = rw c.requires.start (HasOpened-start _ _ c.new-draft.ensures.exact);
   few = rw c.new-draft.ensures.exact (omega arith);
   faults = refl;
   kept = ReadsOn-same g.S.Source.bytes_left g.S.Source.loan c.args.reader.now (omega (arith, c.requires.start));
@@ -22,7 +23,7 @@ lines-preserved g c =
     let there = c.if-not-branch.false in
     let goes : is_go (words c.take_line.new.reader.line) ≡ false =
     ap (λ (line : List ℕ). is_go (words line)) (sym c.line.ensures.exact)
-    ∙ sym c.in_ok-is_go_line.ensures ∙ c.if-branch.false in
+    ∙ sym c.in_ok-is_go_line.ensures.exact ∙ c.if-branch.false in
     let next : c.add_line.new.self ≡ with_line c.lines.draft c.take_line.new.reader.line =
     c.in_ok-add_line.ensures.ok
     ∙ ap (λ (line : List ℕ). with_line c.lines.draft line) c.line-in-lines.ensures.exact in
@@ -53,7 +54,7 @@ pub returns-then-branch-clause-answer : goal.returns-then-branch-clause-answer
 returns-then-branch-clause-answer g c =
     let goes : is_go (words c.take_line.new.reader.line) ≡ true =
     ap (λ (line : List ℕ). is_go (words line)) (sym c.line.ensures.exact)
-    ∙ sym c.in_ok-is_go_line.ensures ∙ c.if-branch.true in
+    ∙ sym c.in_ok-is_go_line.ensures.exact ∙ c.if-branch.true in
     IfSome_then _ c.lines.invariant.opened (λ bytes opened.
     HasOpened-go (opening bytes) c.lines.draft c.lines.reader.taken c.take_line.new.reader.taken
     (0 + c.lines.reader.taken) c.take_line.new.reader.line c.in_ok-take_line.field-0

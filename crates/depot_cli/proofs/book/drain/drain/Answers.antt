@@ -10,7 +10,8 @@ use Rattle.view_meaning.specs.declared.journal.Entry.{Entry}
 use Rattle.view_meaning.specs.Values.{value}
 use Rattle.view_meaning.specs.Drains.{drained, unsettled, with_install}
 use Rattle.view_meaning.specs.Reached.{reached}
-use Rattle.depot_cli.proofs.KeptLemmas.{HasInstalled-start, HasInstalled-install, IsKept-drained, fold-take-more, number_in-le, reached-fresh}
+use Rattle.depot_cli.proofs.KeptLemmas.{HasInstalled-start, HasInstalled-install, IsKept-drained}
+use Rattle.depot_cli.proofs.KeptLemmas.{fold-take-push, number_in-le, reached-fresh}
 use Rattle.depot_cli.proofs.KnownLemmas.{OnErr-each}
 use Rattle.depot_cli.proofs.book.drain.drain.Goals as goal
 
@@ -27,14 +28,14 @@ keys-preserved c =
     record {
       installed = c.in_ok-install.ensures.entries
           ∙ ap (λ (entries : List Entry). with_install entries key) c.keys.invariant.installed
-          ∙ sym (fold-take-more with_install c.args.journal.now.entries
+          ∙ sym (fold-take-push with_install c.args.journal.now.entries
           c.deref-key-items.result.now c.keys.key-index (record { table = 0; part = 0 })
           c.keys-test.true);
       kept = HasInstalled-install c.args.served.now.desc c.keys.journal c.install.new.self _
           c.in_ok-rows.rows c.keys.invariant.kept
           (c.in_ok-rows.ensures.exact
           ∙ ap (λ (accepted : List DeliveryOf). value c.args.served.now.desc accepted key)
-          c.accepted.ensures)
+          c.accepted.ensures.exact)
           c.in_ok-install.ensures.entries c.in_ok-install.ensures.found;
     }
 
@@ -69,7 +70,7 @@ returns-in_err-rows-clause-err c =
     c.deref-key-items.result.now c.keys.key-index c.keys.invariant.installed
     (keys-unsettled c.args.served.now.desc c.args.journal.now _ _ _
     c.args.served.now.is_served.earlier c.requires.kept c.deref-key-items.ensures.value
-    c.in_ok-keys.ensures.exact c.fresh.ensures))
+    c.in_ok-keys.ensures.exact c.fresh.ensures.exact))
 
 pub returns-in_err-install-clause-err : goal.returns-in_err-install-clause-err
 returns-in_err-install-clause-err c =
@@ -79,7 +80,7 @@ returns-in_err-install-clause-err c =
     c.deref-key-items.result.now c.keys.key-index c.keys.invariant.installed
     (keys-unsettled c.args.served.now.desc c.args.journal.now _ _ _
     c.args.served.now.is_served.earlier c.requires.kept c.deref-key-items.ensures.value
-    c.in_ok-keys.ensures.exact c.fresh.ensures)))
+    c.in_ok-keys.ensures.exact c.fresh.ensures.exact)))
 
 pub returns : goal.returns
 returns c =
@@ -89,7 +90,7 @@ returns c =
     let unsettled_keys : keys ≡ unsettled c.args.served.now.desc c.args.journal.now.entries =
     keys-unsettled c.args.served.now.desc c.args.journal.now _ _ _
     c.args.served.now.is_served.earlier c.requires.kept c.deref-key-items.ensures.value
-    c.in_ok-keys.ensures.exact c.fresh.ensures in
+    c.in_ok-keys.ensures.exact c.fresh.ensures.exact in
     let drains : c.keys.journal.entries ≡ drained c.args.served.now.desc c.args.journal.now.entries =
     c.keys.invariant.installed
     ∙ ap (fold with_install c.args.journal.now.entries) (all ∙ unsettled_keys) in

@@ -4,13 +4,13 @@ use Rattle.depot_cli.proofs.book.journal.Journal.install.Goals as goal
 
 pub invariant_of-self-2 : goal.invariant_of-self-2
 invariant_of-self-2 c =
-    rw (c.in-Ok-push.ensures.items, c.reserve.ensures.items)
+    rw (c.in-Ok.ensures.items, c.reserve.ensures.items)
     (AreSteps-install _ _ _ _ _ c.self.invariant)
 
 pub returns-clause-entries : goal.returns-clause-entries
 returns-clause-entries c =
     rw (
-      c.in-Ok-push.ensures.items,
+      c.in-Ok.ensures.items,
       c.reserve.ensures.items,
       c.len-at.ensures.exact,
       ← c.self.view_is,

@@ -4,14 +4,14 @@ use Rattle.depot_cli.proofs.book.journal.Journal.load.Goals as goal
 
 pub invariant_of-self-2 : goal.invariant_of-self-2
 invariant_of-self-2 c =
-    rw (c.in-Ok-push-2.ensures.items, c.in-Ok-push.ensures.items, c.reserve.ensures.items)
+    rw (c.in-Ok.ensures.items, c.in_ok-push.ensures.items, c.reserve.ensures.items)
     (AreSteps-load _ _ _ _ c.self.invariant)
 
 pub returns-clause-entries : goal.returns-clause-entries
 returns-clause-entries c =
     rw (
-      c.in-Ok-push-2.ensures.items,
-      c.in-Ok-push.ensures.items,
+      c.in-Ok.ensures.items,
+      c.in_ok-push.ensures.items,
       c.reserve.ensures.items,
       ← c.self.view_is,
     )
