@@ -18,13 +18,13 @@ ghost use Rattle.feed_csv.specs.Bodies.{find_raw_table, row_of, rows_of, table_c
 use csv::{ByteRecord, Reader, ReaderBuilder};
 use depot_cell::{Cell, Memory, Row};
 use std::alloc::Global;
-use table_desc::{Column, DRow, END, Kind, Served, Table, field_cell, is_word};
+use table_desc::{Column, DRow, END, Kind, ServedDesc, Table, field_cell, is_word};
 
 /// The rows of a body of up to 16,777,216 bytes, or `None` if some record is no row. The
 /// vector keeps no spare room.
 pub fn read_rows(
     alloc: Global,
-    served: &Served,
+    served: &ServedDesc,
     feed: u16,
     body: &[u8],
 ) -> Result<Option<Vec<DRow>>, Memory>
@@ -50,7 +50,7 @@ pub fn rows_fit()
 /// The rows of the records of a body, of which the reader has read nothing yet.
 fn read_records(
     alloc: Global,
-    served: &Served,
+    served: &ServedDesc,
     feed: u16,
     mut reader: Reader<&[u8]>,
 ) -> Result<Option<Vec<DRow>>, Memory>
@@ -83,7 +83,7 @@ fn read_records(
 /// The row that the record with this number is, if it is one.
 fn read_row(
     alloc: Global,
-    served: &Served,
+    served: &ServedDesc,
     feed: u16,
     number: u32,
     fields: &ByteRecord,
@@ -108,7 +108,7 @@ fn read_row(
 }
 
 /// The number of the feed's raw table with this name.
-fn find_raw_table(served: &Served, feed: u16, name: &[u8]) -> Option<u16>
+fn find_raw_table(served: &ServedDesc, feed: u16, name: &[u8]) -> Option<u16>
     ensures exact { result ≡ find_raw_table served.now.desc feed name.now }
     ensures within { IfSome result (λ table. table < length served.now.desc.tables) }
 {

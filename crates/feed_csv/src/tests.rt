@@ -4,11 +4,11 @@ use crate::read_rows;
 use depot_cell::cell_text;
 use std::alloc::Global;
 use std::test::Fail;
-use table_desc::{DRow, Draft, Served};
+use table_desc::{DRow, Draft, ServedDesc};
 
 /// The table `r` of the feed `f`, with the columns `t:int`, `s:text` and `n:int`, of which the
 /// first is the time, and a view over it.
-fn described(alloc: Global) -> Result<Served, Fail> {
+fn described(alloc: Global) -> Result<ServedDesc, Fail> {
     let mut draft = Draft::new(alloc);
     draft.add_line(alloc, b"feed f")?;
     draft.add_line(

@@ -8,12 +8,12 @@ use crate::{Desc, Table};
 /// A description that is served, as [`crate::Draft`] makes it of lines: at most one feed, at most
 /// 64 tables of at most 16 columns, and each view reads just its own ticks of earlier tables.
 #[derive(Debug, Drop)]
-pub struct Served {
+pub struct ServedDesc {
     pub desc: Desc,
     pub ghost is_served: { IsServed desc },
 }
 
-impl Served {
+impl ServedDesc {
     /// The table with this number.
     pub fn table(&self, number: u16) -> &Table
         requires within { number < length self.now.desc.tables }

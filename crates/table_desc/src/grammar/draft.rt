@@ -13,7 +13,7 @@ use crate::grammar::filter::read_filter;
 use crate::grammar::names::{find_table, is_name, name_text};
 use crate::grammar::raw_table::read_raw_table;
 use crate::grammar::words::{is_skipped, is_word, words_of};
-use crate::{Desc, Feed, Served, Table};
+use crate::{Desc, Feed, ServedDesc, Table};
 use depot_cell::Memory;
 use std::alloc::Global;
 use std::marker::Model;
@@ -25,7 +25,7 @@ const MOST_TABLES: usize = 64;
 /// [`Draft::add_line`], and ask at the end whether one was bad.
 #[derive(Debug, Drop)]
 pub struct Draft {
-    served: Served,
+    served: ServedDesc,
     lines: u64,
     bad: Option<u64>,
 }
@@ -93,7 +93,7 @@ impl Draft {
     }
 
     /// What the lines before the first bad one declare.
-    pub fn into_served(self) -> Served
+    pub fn into_served(self) -> ServedDesc
         ensures exact { result.desc ≡ self.desc }
     {
         self.served
@@ -101,10 +101,10 @@ impl Draft {
 }
 
 /// The description that has nothing.
-fn no_desc(alloc: Global) -> Served
+fn no_desc(alloc: Global) -> ServedDesc
     ensures exact { result.desc ≡ nothing_described.desc }
 {
-    Served {
+    ServedDesc {
         desc: Desc {
             feeds: Vec::new(alloc),
             tables: Vec::new(alloc),
@@ -112,7 +112,7 @@ fn no_desc(alloc: Global) -> Served
     }
 }
 
-fn declare(alloc: Global, served: &mut Served, words: &[&[u8]]) -> Result<bool, Memory>
+fn declare(alloc: Global, served: &mut ServedDesc, words: &[&[u8]]) -> Result<bool, Memory>
     ensures exact { IfOk result (λ is_declared. is_declared ≡
         is_some (declared_by served.old.desc (map (λ word. word.now) words.now))) }
     ensures ok { OnOk result (served.new.desc ≡
@@ -129,7 +129,7 @@ fn declare(alloc: Global, served: &mut Served, words: &[&[u8]]) -> Result<bool, 
 
 fn declare_feed(
     alloc: Global,
-    served: &mut Served,
+    served: &mut ServedDesc,
     keyword: &[u8],
     name: &[u8],
 ) -> Result<bool, Memory>
@@ -152,7 +152,7 @@ fn declare_feed(
 
 fn declare_table(
     alloc: Global,
-    served: &mut Served,
+    served: &mut ServedDesc,
     keyword: &[u8],
     name: &[u8],
     words: &[&[u8]],
@@ -179,7 +179,7 @@ fn declare_table(
 
 fn read_table(
     alloc: Global,
-    served: &Served,
+    served: &ServedDesc,
     keyword: &[u8],
     name: &[u8],
     words: &[&[u8]],
@@ -197,7 +197,7 @@ fn read_table(
     }
 }
 
-fn push_table(served: &mut Served, table: Table) -> Result<(), Memory>
+fn push_table(served: &mut ServedDesc, table: Table) -> Result<(), Memory>
     requires room { length served.old.desc.tables < 64 }
     requires next { IsNextTable served.old.desc table }
     ensures ok { OnOk result (served.new.desc ≡
@@ -208,7 +208,7 @@ fn push_table(served: &mut Served, table: Table) -> Result<(), Memory>
     Ok(())
 }
 
-fn is_free(served: &Served, name: &[u8]) -> bool
+fn is_free(served: &ServedDesc, name: &[u8]) -> bool
     ensures exact { result ≡ is_free served.now.desc name.now }
     ensures room { OnTrue result (length served.now.desc.tables < 64) }
 {

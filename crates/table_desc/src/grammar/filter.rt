@@ -12,7 +12,7 @@ use crate::grammar::names::{find_table, name_text};
 use crate::grammar::raw_table::read_width;
 use crate::grammar::selection::{Selection, read_selection};
 use crate::grammar::words::is_word;
-use crate::{Kind, Served, Span, Src, Table, Width};
+use crate::{Kind, ServedDesc, Span, Src, Table, Width};
 use depot_cell::{Memory, read_number};
 use std::alloc::Global;
 
@@ -29,7 +29,7 @@ const OWN_TICKS: Span = Span { lo: 0, hi: 0 };
 /// `width W filter S LO HI where C OP LIT [and C OP LIT ..] keep C ..`.
 pub fn read_filter(
     alloc: Global,
-    served: &Served,
+    served: &ServedDesc,
     name: &[u8],
     words: &[&[u8]],
 ) -> Result<Option<Table>, Memory>
@@ -80,7 +80,7 @@ fn unsigned(word: &[u8]) -> &[u8]
 
 fn filter_from(
     alloc: Global,
-    served: &Served,
+    served: &ServedDesc,
     name: &[u8],
     ticks: &[u8],
     source: &[u8],

@@ -7,7 +7,7 @@ ghost use Rattle.table_desc.specs.Names.{begins_name, find_feed, is_letter, is_n
 ghost use Rattle.table_desc.specs.Names.{reserved, find_table};
 
 use crate::grammar::words::is_word;
-use crate::{Feed, Served, Table};
+use crate::{Feed, ServedDesc, Table};
 use depot_cell::{Memory, Str};
 use std::alloc::Global;
 
@@ -70,7 +70,7 @@ pub fn name_text(alloc: Global, name: &[u8]) -> Result<Str, Memory>
 }
 
 /// The number of the feed with this name.
-pub fn find_feed(served: &Served, name: &[u8]) -> Option<u16>
+pub fn find_feed(served: &ServedDesc, name: &[u8]) -> Option<u16>
     ensures exact { result ≡ find_feed served.now.desc name.now }
 {
     match place_of_feed(&served.desc.feeds, name) {
@@ -89,7 +89,7 @@ fn place_of_feed(feeds: &[Feed], name: &[u8]) -> Option<usize>
 }
 
 /// The number of the table with this name.
-pub fn find_table(served: &Served, name: &[u8]) -> Option<u16>
+pub fn find_table(served: &ServedDesc, name: &[u8]) -> Option<u16>
     ensures exact { result ≡ find_table served.now.desc name.now }
     ensures within { IfSome result (λ table. table < length served.now.desc.tables) }
 {

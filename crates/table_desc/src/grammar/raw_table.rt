@@ -9,14 +9,14 @@ ghost use Rattle.table_desc.specs.RawTables.{raw_table, read_width};
 use crate::grammar::columns::{are_columns, columns_of, find_time};
 use crate::grammar::names::{find_feed, name_text};
 use crate::grammar::words::is_word;
-use crate::{Column, END, Kind, Served, Table, Width};
+use crate::{Column, END, Kind, ServedDesc, Table, Width};
 use depot_cell::{Memory, read_number};
 use std::alloc::Global;
 
 /// The raw table with this name that words say: `feed F width W time C cols C:TYPE ..`.
 pub fn read_raw_table(
     alloc: Global,
-    served: &Served,
+    served: &ServedDesc,
     name: &[u8],
     words: &[&[u8]],
 ) -> Result<Option<Table>, Memory>
@@ -56,7 +56,7 @@ fn are_raw_keywords(feed: &[u8], width: &[u8], time: &[u8], cols: &[u8]) -> bool
 
 fn raw_table_from(
     alloc: Global,
-    served: &Served,
+    served: &ServedDesc,
     name: &[u8],
     feed: &[u8],
     width: &[u8],
@@ -75,7 +75,7 @@ fn raw_table_from(
 
 fn raw_table(
     alloc: Global,
-    served: &Served,
+    served: &ServedDesc,
     name: &[u8],
     feed: &[u8],
     width: &[u8],
