@@ -2,4 +2,3 @@ mod ends;
 mod lines;
 mod runs;
 mod texts;
-mod views;
