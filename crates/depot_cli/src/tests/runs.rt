@@ -1,95 +1,14 @@
 //! Tests of the top call, over sources and sinks in memory.
 
-use crate::run::help::text_asked;
+ghost use Rattle.std.specs.Prelude.{None};
+
+use super::trial;
+use crate::run::laws::{runs_are_complete, serial_is_legal};
 use crate::run::run;
 use crate::run::status::{DescCause, InputEnd, Status};
-use depot_io::{NeverSource, Sink, Source, VecSink, VecSource};
-use std::alloc::Global;
+use depot_io::{Failed, NeverSource, Sink, Source, VecSink, VecSource};
+use std::cell::Cell;
 use std::test::Fail;
-
-const DESCRIPTION: &[u8] = b"feed f\nraw r feed f width 10 time at cols at:int k:text n:int\ngo\n";
-
-/// The words of a command line.
-fn words(alloc: Global, texts: &[&str]) -> Result<Vec<String>, Fail> {
-    let mut words = Vec::new(alloc);
-    for text in texts {
-        words.push(String::from_str(alloc, text)?)?;
-    }
-    Ok(words)
-}
-
-/// A description and the session lines behind it.
-fn script(alloc: Global, session: &[u8]) -> Result<Vec<u8>, Fail> {
-    let mut bytes = DESCRIPTION.to_vec(alloc)?;
-    bytes.extend_from_slice(session)?;
-    Ok(bytes)
-}
-
-/// Runs `trial`, and says how it ended.
-fn trial<S: Source, O: Sink>(alloc: Global, source: &mut S, sink: &mut O) -> Result<Status, Fail> {
-    let words = words(alloc, &["trial"])?;
-    Ok(run(alloc, &words, source, sink))
-}
-
-#[test]
-fn replies_follow_the_lines(rt: HostRuntime) -> Result<(), Fail> {
-    let alloc = rt.alloc();
-    let cases: [(&[u8], Status, &[u8]); 8] = [
-        (b"", Status::Done, b""),
-        (
-            b"deliver f 0 0 17\nr,3,a,5\nr,12,b,2\nquery r 0 20\n",
-            Status::Done,
-            b"loaded f 0 entry 1 kept 2 aside 0\nanswer at 1 parts 2\n\
-part r 0 version 1 upto 1 mark open rows 1\n3,a,5\n\
-part r 1 version 1 upto 1 mark open rows 1\n12,b,2\n",
-        ),
-        (
-            b"deliver f 0 0 13\r\nr,3,\"a,b\",5\r\nquery r 0 10\n",
-            Status::Done,
-            b"loaded f 0 entry 1 kept 1 aside 0\nanswer at 1 parts 1\n\
-part r 0 version 1 upto 1 mark open rows 1\n3,\"a,b\",5\n",
-        ),
-        (
-            b"deliver f 7 0 8\nr,3,a,5\ndeliver f 7 0 8\nr,4,b,6\nquery r 0 10\n",
-            Status::Done,
-            b"loaded f 7 entry 1 kept 1 aside 0\nrepeat f 7\nanswer at 1 parts 1\n\
-part r 0 version 1 upto 1 mark open rows 1\n3,a,5\n",
-        ),
-        (
-            b"# a comment\n\nmarks r 0 10\ndeliver f 0 0 6\nr,3,a\nquery r 20 0\nend\nquery r 0 10\n",
-            Status::Refused,
-            b"refused 3 later\nrefused 4 later\nrefused 5 later\n",
-        ),
-        (
-            b"deliver f 0 1 8\nr,3,a,5\nquery r 5 5\n",
-            Status::Refused,
-            b"refused 1 later\nanswer at 0 parts 0\n",
-        ),
-        (
-            b"deliver f 0 0 17\nr,3,a,5\n",
-            Status::Input {
-                why: InputEnd::Cut,
-                place: 82,
-            },
-            b"",
-        ),
-        (
-            b"query r 0 10\ndeliver x y z 16777217\n",
-            Status::Input {
-                why: InputEnd::Big,
-                place: 101,
-            },
-            b"answer at 0 parts 1\npart r 0 version 0 upto 0 mark open rows 0\n",
-        ),
-    ];
-    for (session, status, output) in cases {
-        let mut source = NeverSource::new(script(alloc, session)?);
-        let mut sink = VecSink::new(alloc, 4_096, Vec::new(alloc))?;
-        assert_eq!(rt; trial(alloc, &mut source, &mut sink)?, status);
-        assert_eq!(rt; sink.bytes(), output);
-    }
-    Ok(())
-}
 
 #[test]
 fn a_description_is_read_to_its_go_line(rt: HostRuntime) -> Result<(), Fail> {
@@ -102,13 +21,14 @@ fn a_description_is_read_to_its_go_line(rt: HostRuntime) -> Result<(), Fail> {
         line,
         cause: DescCause::Later,
     };
-    let cases: [(&[u8], Status); 6] = [
+    let cases: [(&[u8], Status); 7] = [
         (b"", no_go(0)),
         (b"feed f\n", no_go(7)),
         (b"feed f\ngo\r", no_go(10)),
-        (b"\tgo \r\n", Status::Done),
-        (b"# none\nfeed f\nfeed g\nfeed h\ngo\n", later(3)),
         (b"feed by\n", no_go(8)),
+        (b"\tgo \r\n", Status::Done),
+        (b"feed by\ngo\nmarks\n", later(1)),
+        (b"# none\nfeed f\nfeed g\nfeed h\ngo\n", later(3)),
     ];
     for (input, status) in cases {
         let mut source = NeverSource::new(input.to_vec(alloc)?);
@@ -119,62 +39,101 @@ fn a_description_is_read_to_its_go_line(rt: HostRuntime) -> Result<(), Fail> {
 }
 
 #[test]
-fn each_status_has_its_code_and_line(rt: HostRuntime) -> Result<(), Fail> {
-    let alloc = rt.alloc();
-    let input = |why| Status::Input { why, place: 138 };
-    let bad = Status::BadDescription {
-        line: 3,
-        cause: DescCause::Later,
-    };
-    let cases: [(Status, u8, &str); 12] = [
-        (Status::Done, 0, "done"),
-        (Status::Refused, 1, "refused"),
-        (Status::Usage, 2, "usage: depot_cli FOLDER trial"),
-        (bad, 3, "depot: description line 3: later"),
-        (input(InputEnd::Cut), 4, "depot: input: cut at 138"),
-        (
-            input(InputEnd::LongLine),
-            4,
-            "depot: input: long_line at 138",
-        ),
-        (input(InputEnd::Big), 4, "depot: input: big at 138"),
-        (input(InputEnd::Long), 4, "depot: input: long at 138"),
-        (input(InputEnd::NoGo), 4, "depot: input: no_go at 138"),
-        (Status::ReadFault, 5, "depot: reading failed"),
-        (Status::WriteFault, 6, "depot: writing failed"),
-        (Status::Memory, 9, "depot: no memory"),
-    ];
-    for (status, code, line) in cases {
-        assert_eq!(rt; status.code(), code);
-        let text = format!(in alloc; "{status}")?;
-        assert_eq!(rt; text.as_str(), line);
-    }
-    Ok(())
-}
-
-#[test]
 fn other_words_read_and_write_nothing(rt: HostRuntime) -> Result<(), Fail> {
     let alloc = rt.alloc();
     let cases: [&[&str]; 4] = [&[], &["session"], &["trial", "x"], &["Trial"]];
     for texts in cases {
-        let words = words(alloc, texts)?;
-        let mut source = VecSource::new(script(alloc, b"")?, Vec::from_slice(alloc, &[1])?);
+        let mut words = Vec::new(alloc);
+        for text in texts {
+            words.push(String::from_str(alloc, text)?)?;
+        }
+        let mut source = VecSource::new(b"go\n".to_vec(alloc)?, vec![in alloc; 1; 1]?);
         let mut sink = VecSink::new(alloc, 0, Vec::new(alloc))?;
         assert_eq!(rt; run(alloc, &words, &mut source, &mut sink), Status::Usage);
     }
     Ok(())
 }
 
+/// With memory each kind of line is served, and a text may be empty.
 #[test]
-fn the_first_word_may_ask_for_a_text(rt: HostRuntime) {
-    for word in ["--help", "-h", "--version"] {
-        let text = text_asked(word).unwrap_or(&[]);
-        assert!(rt; text.starts_with(b"depot_cli"), "at {word}");
-        for line in text.split(|byte| *byte == b'\n') {
-            assert!(rt; line.len() <= 80, "at {word}");
-        }
+fn ample_memory_is_enough(rt: HostRuntime) -> Result<(), Fail> {
+    let alloc = rt.alloc();
+    let script = b"feed f\nraw r feed f width 10 time at cols at:int k:text\n\
+view v width 10 filter r 0 0 where at >= 0 keep k\ngo\n\
+deliver f 0 0 5\nr,3,\ndeliver f 0 0 0\nmarks\ndrain\nquery r 0 10\nquery v 0 10\n\nend\nx";
+    let replies = b"loaded f 0 entry 1 kept 1 aside 0\nrepeat f 0\nrefused 3 later\ndrained at 2\n\
+answer at 2 parts 1\npart r 0 version 1 upto 2 mark open rows 1\n3,\n\
+answer at 2 parts 1\npart v 0 version 1 upto 1 mark open rows 1\n\"\"\n";
+    let mut source = NeverSource::new(script.to_vec(alloc)?);
+    let mut sink = VecSink::new(alloc, replies.len(), Vec::new(alloc))?;
+    let status = trial(alloc, &mut source, &mut sink)?;
+    assert_eq!(rt; status.code(), 1);
+    assert!(rt; !status.is_told());
+    assert_eq!(rt; sink.bytes(), replies.as_slice());
+    assert_eq!(rt; source.take(&mut [0; 2]), Ok(1));
+    serial_is_legal();
+    runs_are_complete();
+    Ok(())
+}
+
+/// A source that counts the bytes that were taken of it.
+#[derive(Drop)]
+struct Counting<'a> {
+    source: NeverSource,
+    taken: &'a Cell<usize>,
+}
+
+impl Source for Counting<'_> {
+    ghost bytes_left = { λ _. None };
+
+    ghost faults = { λ _. 0 };
+
+    ghost loan = { λ _. None };
+
+    fn take(&mut self, into: &mut [u8]) -> Result<usize, Failed> {
+        let count = self.source.take(into)?;
+        self.taken.set(self.taken.get().saturating_add(count));
+        Ok(count)
     }
-    for word in [".", "trial", "help", "--helpful", ""] {
-        assert!(rt; text_asked(word).is_none(), "at {word}");
+}
+
+/// A sink that remembers how many bytes the source had given at each put.
+#[derive(Drop)]
+struct Watching<'a> {
+    taken: &'a Cell<usize>,
+    at_puts: Vec<usize>,
+}
+
+impl Sink for Watching<'_> {
+    ghost bytes_got = { λ _. None };
+
+    ghost room = { λ _. None };
+
+    ghost faults = { λ _. 0 };
+
+    fn put(&mut self, bytes: &[u8]) -> Result<usize, Failed> {
+        let _ = self.at_puts.push(self.taken.get());
+        Ok(bytes.len())
     }
+}
+
+#[test]
+fn each_reply_is_out_before_the_next_line_is_taken(rt: HostRuntime) -> Result<(), Fail> {
+    let alloc = rt.alloc();
+    let taken = Cell::new(0);
+    // The session begins at 52. Its first line is a comment, and each other one has a reply.
+    let script = b"feed f\nraw r feed f width 10 time at cols at:int\ngo\n\
+# x\ndeliver f 0 0 4\nr,3\ndrain\nquery r 0 10\nmarks\nend\nmarks\n";
+    let mut source = Counting {
+        source: NeverSource::new(script.to_vec(alloc)?),
+        taken: &taken,
+    };
+    let mut sink = Watching {
+        taken: &taken,
+        at_puts: Vec::new(alloc),
+    };
+    assert_eq!(rt; trial(alloc, &mut source, &mut sink)?, Status::Refused);
+    assert_eq!(rt; sink.at_puts.as_slice(), [76, 82, 95, 101].as_slice());
+    assert_eq!(rt; taken.get(), 105);
+    Ok(())
 }
