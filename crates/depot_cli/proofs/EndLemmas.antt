@@ -254,7 +254,8 @@ unfit-reply : (desc : DescOf) (whole : Session) (items more : List Work) (work :
     → ended ≡ status.WriteFault → ⊥
 unfit-reply desc whole items more work room_before room_now ended splits before unfit fits blamed =
     let text = reply desc (1 + length items) (serial desc [] items) work in
-    let P : Status → Type 0 = λ ended. IsReplyRoom {T = Unit {0}} room_now room_now text (Err ended) in
+    let P : Status → Type 0 = λ ended. IsReplyRoom {T = Unit {0}} room_now room_now text (Err
+    ended) in
     subst P blamed unfit
     (HasRoomFor-next room_before room_now (length (replies desc 1 [] items)) (length text)
     (length (replies desc 1 [] whole.items))

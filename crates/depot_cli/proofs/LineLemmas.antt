@@ -95,7 +95,8 @@ body_step-left : (desc : DescOf) (base due taken size : ℕ) (head : Option Head
     → next_body taken size bytes ≡ next
     → body_step desc base due taken head size next ≡ Does work its_due taken_now rest
     → (length rest ≡ length bytes - size) × (its_due ≡ due)
-body_step-left desc base due taken size head bytes rest (Unfinished cause left) work its_due taken_now
+body_step-left desc base due taken size head bytes rest (Unfinished cause left) work its_due
+    taken_now
     is_next does = cc
 body_step-left desc base due taken size head bytes rest (Body body behind) work its_due taken_now
     is_next does =

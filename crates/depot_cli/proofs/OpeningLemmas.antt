@@ -171,7 +171,8 @@ opening_fault whole turns taken taken_now place rest line lines left_now (Input 
     is_place answer = (
       answer.0,
       ap (λ (opening : Opening). opening.end)
-          (sym (opening_next whole lines turns taken rest (Unreadable why answer.0) answer.1 goes_on))
+          (sym (opening_next whole lines turns taken rest (Unreadable why answer.0) answer.1
+          goes_on))
           ∙ ap (λ (place : ℕ). Broken why place answer.0) (sym (answer.3 ∙ is_place)),
       answer.2,
     )

@@ -79,7 +79,8 @@ pub HasServed-start : (desc : DescOf) (base : ℕ) (left got : Option (List ℕ)
 HasServed-start desc base None got room journal taken is_new is_start = tt
 HasServed-start desc base (Some input) got room journal taken is_new is_start =
     let P : List Entry → ℕ → Type 0 = λ journal taken.
-    HasServed desc base (session desc base input) got got room room journal 1 false taken (Some input) in
+    HasServed desc base (session desc base input) got got room room journal 1 false taken (Some
+    input) in
     subst (λ (taken : ℕ). P journal taken) (sym is_start)
     (subst (λ (journal : List Entry). P journal 0) (sym is_new)
     (HasServed-empty desc base input got room))
@@ -198,7 +199,8 @@ HasServed-item desc base whole got_before got_now got_next room_before room_now 
           (length (reply desc (1 + length served.items) (serial desc [] served.items) work))
           (length (replies desc 1 [] whole.items))
           (length-replies_front desc whole.items served.items
-          (session_from desc base (suc turns) taken_next rest).items work (splits turns due rest step goes_on))
+          (session_from desc base (suc turns) taken_next rest).items work (splits turns due rest
+          step goes_on))
           served.room
           (subst (λ (text : List ℕ). HasRoomFor room_now (length text)
           → room_next ≡ room_after room_now (length text)) at_item takes)

@@ -28,14 +28,14 @@ use crate::reply::texts::{
 use crate::script::work::Work;
 use depot_cell::{Memory, Rows};
 use std::alloc::Global;
-use table_desc::{Delivery, Key, Kind, Served, Table};
+use table_desc::{Delivery, Key, Kind, ServedDesc, Table};
 use view_meaning::{Item, Loaded, Mark, Parts, PinItem, parts_of_span, plain_value, plain_version};
 
 /// Does what an item asks for, and makes the text of the reply. `line` is the item's line, from 1.
 /// Without memory a drain may have made some of its installs, and nothing else has changed.
 pub fn answer(
     alloc: Global,
-    served: &Served,
+    served: &ServedDesc,
     line: u64,
     journal: &mut Journal,
     work: Work,
@@ -62,7 +62,7 @@ pub fn answer(
 /// Loads a delivery, unless its number was accepted before.
 fn load(
     alloc: Global,
-    served: &Served,
+    served: &ServedDesc,
     journal: &mut Journal,
     delivery: Delivery,
 ) -> Result<Vec<u8>, Memory>
@@ -89,7 +89,7 @@ fn load(
 }
 
 /// Computes all that is not settled, and tells the place.
-fn drain_text(alloc: Global, served: &Served, journal: &mut Journal) -> Result<Vec<u8>, Memory>
+fn drain_text(alloc: Global, served: &ServedDesc, journal: &mut Journal) -> Result<Vec<u8>, Memory>
     requires kept { IsKept served.now.desc journal.old }
     ensures exact { IfOk result (λ text.
         text.items ≡ drained_text (length (drained served.now.desc journal.old.entries))) }
@@ -103,7 +103,7 @@ fn drain_text(alloc: Global, served: &Served, journal: &mut Journal) -> Result<V
 }
 
 /// The name of a feed.
-fn feed_name(served: &Served, feed: u16) -> &[u8]
+fn feed_name(served: &ServedDesc, feed: u16) -> &[u8]
     ensures exact { result.now ≡ feed_name served.now.desc feed }
 {
     match served.desc.feeds.get(feed as usize) {
@@ -115,7 +115,7 @@ fn feed_name(served: &Served, feed: u16) -> &[u8]
 /// The answer to a query: the partitions of its table that it asks for, each with its rows.
 fn query_text(
     alloc: Global,
-    served: &Served,
+    served: &ServedDesc,
     journal: &Journal,
     item: Item,
 ) -> Result<Vec<u8>, Memory>
@@ -137,7 +137,7 @@ fn query_text(
 }
 
 /// The table with this number.
-fn table_at(served: &Served, number: u16) -> Option<&Table>
+fn table_at(served: &ServedDesc, number: u16) -> Option<&Table>
     ensures exact { option_copied result ≡ slice_get served.now.desc.tables number }
 {
     served.desc.tables.get(number as usize)
@@ -146,7 +146,7 @@ fn table_at(served: &Served, number: u16) -> Option<&Table>
 /// Puts a run of partitions of a table after a text.
 fn put_parts(
     alloc: Global,
-    served: &Served,
+    served: &ServedDesc,
     journal: &Journal,
     table: &Table,
     number: u16,
@@ -158,7 +158,8 @@ fn put_parts(
     requires in_time { parts.first + parts.count < 2 ^ 64 }
     ensures ok { OnOk result (text.new.items ≡ text.old.items
         ++ flat_map (shown_text table.now.name) (map
-        (λ part. shown_part served.now.desc journal.now.entries (record { table = number; part = part }))
+        (λ part. shown_part served.now.desc journal.now.entries (record
+        { table = number; part = part }))
         (range_with_len parts.first parts.count))) }
 {
     'parts: for part in parts.first..parts.first + parts.count {
@@ -175,7 +176,7 @@ fn put_parts(
 /// One partition of an answer: its line, and its rows.
 fn shown_text(
     alloc: Global,
-    served: &Served,
+    served: &ServedDesc,
     journal: &Journal,
     table: &Table,
     key: Key,
@@ -195,7 +196,7 @@ fn shown_text(
 /// One partition of a raw table: its rows are those of all deliveries.
 fn raw_text(
     alloc: Global,
-    served: &Served,
+    served: &ServedDesc,
     journal: &Journal,
     table: &Table,
     key: Key,
@@ -218,7 +219,7 @@ fn raw_text(
 /// One partition of a view: its rows are those of its latest version.
 fn view_text(
     alloc: Global,
-    served: &Served,
+    served: &ServedDesc,
     journal: &Journal,
     table: &Table,
     key: Key,

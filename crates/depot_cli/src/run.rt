@@ -18,7 +18,7 @@ use crate::run::status::{DescCause, Status};
 use crate::script::{ScriptFault, read_opening};
 use depot_io::{LineReader, Sink, Source};
 use std::alloc::Global;
-use table_desc::{Draft, Served};
+use table_desc::{Draft, ServedDesc};
 
 /// Runs a command: `words` are those after the folder. The one command is `trial`. It reads a
 /// description up to its `go` line and then session lines off the source, and puts the replies
@@ -113,7 +113,7 @@ fn open<S: Source>(alloc: Global, source: &mut S) -> Result<(Draft, u64), Script
 /// Serves the session lines that a source has left. `base` is the place at which they begin.
 fn serve_source<S: Source, O: Sink>(
     alloc: Global,
-    served: &Served,
+    served: &ServedDesc,
     base: u64,
     source: &mut S,
     sink: &mut O,

@@ -23,7 +23,7 @@ use depot_cell::Memory;
 use depot_io::{Line, LineFault, LineReader, Source};
 use feed_csv::read_rows;
 use std::alloc::Global;
-use table_desc::{Delivery, Draft, Served, is_go, words_of};
+use table_desc::{Delivery, Draft, ServedDesc, is_go, words_of};
 
 /// Why a script was not read on.
 #[derive(Clone, Copy, Debug, PartialEq, Eq, Drop)]
@@ -115,7 +115,7 @@ fn take_body<S: Source>(
 /// What a body asks for: it is refused with its line.
 fn body_work(
     alloc: Global,
-    served: &Served,
+    served: &ServedDesc,
     head: Option<Head>,
     body: &[u8],
 ) -> Result<Work, Memory>
@@ -140,7 +140,7 @@ fn body_work(
 /// of the input or at the word `end`. `body` is room that is used again.
 pub fn next_work<S: Source>(
     alloc: Global,
-    served: &Served,
+    served: &ServedDesc,
     base: u64,
     reader: &mut LineReader<S>,
     body: &mut Vec<u8>,

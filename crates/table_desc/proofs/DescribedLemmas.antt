@@ -1,5 +1,6 @@
 -- What lines declare is served: `described_is_served`.
-use Rattle.std.proofs.Common.{◌≡◌, ◌<◌, ◌++◌, ℕ, List, [], ◌∷◌, Option, Some, None, Bool, true, false}
+use Rattle.std.proofs.Common.{◌≡◌, ◌<◌, ◌++◌, ℕ, List, [], ◌∷◌, Option, Some, None, Bool, true}
+use Rattle.std.proofs.Common.{false}
 use Rattle.std.proofs.Common.{fold, is_some, length, refl, subst, arith, rules, tests}
 use Rattle.std.specs.Prelude.{◌+◌, ◌||◌, codes, if◌then◌else◌, option_map}
 use Rattle.std.specs.Str.{bytes_eq}

@@ -46,5 +46,6 @@ read_selection-step columns (_ ∷ _ ∷ []) default front cond enough told last
     absurd (omega arith)
 read_selection-step columns (_ ∷ _ ∷ _ ∷ []) default front cond enough told last more =
     absurd (omega arith)
-read_selection-step columns (name ∷ op ∷ literal ∷ next ∷ others) default front cond enough said last
+read_selection-step columns (name ∷ op ∷ literal ∷ next ∷ others) default front cond enough said
+    last
     more = rw (last, more, ← said) (with_conds-push front cond _)

@@ -2,7 +2,7 @@
 //!
 //! Deliveries are moved in and never copied, and nothing goes over them when one is added, but
 //! the look for a number that was accepted before. Beside the entries stands the latest version of
-//! each partition of a view, and where the deliveries begin that came since the last drain.
+//! each partition of a view, and which deliveries came since the last drain.
 
 ghost use Rattle.std.specs.Prelude.{Some, ◌≡◌, ◌+◌, ◌∷◌, ◌++◌, ◌<◌, ◌≤◌, ◌^◌, [], length};
 ghost use Rattle.std.specs.Prelude.{option_copied, OnOk, OnErr, if◌then◌else◌};

@@ -20,13 +20,13 @@ use depot_cell::Memory;
 use depot_io::{LineReader, Sink, Source, put_all};
 use std::alloc::Global;
 use std::mem;
-use table_desc::Served;
+use table_desc::ServedDesc;
 
 /// Serves the session lines that a reader has left, up to the end of its input or to the word
 /// `end`. `base` is the place at which the reader's input begins.
 pub fn serve<S: Source, O: Sink>(
     alloc: Global,
-    served: &Served,
+    served: &ServedDesc,
     base: u64,
     reader: &mut LineReader<S>,
     sink: &mut O,
@@ -51,7 +51,7 @@ pub fn serve<S: Source, O: Sink>(
 /// Serves the items over a journal that is empty.
 fn serve_items<S: Source, O: Sink>(
     alloc: Global,
-    served: &Served,
+    served: &ServedDesc,
     base: u64,
     journal: &mut Journal,
     reader: &mut LineReader<S>,
@@ -92,7 +92,7 @@ fn serve_items<S: Source, O: Sink>(
 /// a front of the reply, and if there was no memory nothing.
 fn serve_item<O: Sink>(
     alloc: Global,
-    served: &Served,
+    served: &ServedDesc,
     line: u64,
     journal: &mut Journal,
     work: Work,

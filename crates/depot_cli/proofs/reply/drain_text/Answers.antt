@@ -6,4 +6,5 @@ use Rattle.depot_cli.proofs.reply.drain_text.Goals as goal
 pub returns-clause-err : goal.returns-clause-err
 returns-clause-err c =
     OnErr-each c.drained_text.result
-    (DrainsSome-drained c.args.served.now.desc c.args.journal.now.entries _ c.in_ok-drain.ensures.ok)
+    (DrainsSome-drained c.args.served.now.desc c.args.journal.now.entries _
+    c.in_ok-drain.ensures.ok)

@@ -15,7 +15,8 @@ returns-clause-exact c =
     c.feed_name-feed.ensures.exact
     ∙ ap (λ (place : ℕ). loaded_text (feed_name c.args.served.now.desc inside.feed) inside.number
     (record { entry = place + 1; kept = c.len-2.result; aside = 0 })) c.len.ensures.exact
-    ∙ ap (λ (rows : ℕ). loaded_text (feed_name c.args.served.now.desc inside.feed) inside.number (record {
+    ∙ ap (λ (rows : ℕ). loaded_text (feed_name c.args.served.now.desc inside.feed) inside.number
+    (record {
       entry = length c.args.journal.now.entries + 1;
       kept = rows;
       aside = 0;
@@ -33,6 +34,8 @@ returns-clause-exact c =
 
 pub returns-clause-kept : goal.returns-clause-kept
 returns-clause-kept c =
-    IsKept-load c.args.served.now.desc c.args.journal.now c.load.new.self c.args.delivery c.requires.kept
-    (sym c.has.ensures.exact ∙ c.if-has.false) c.in_ok-load.ensures.entries c.in_ok-load.ensures.fresh
+    IsKept-load c.args.served.now.desc c.args.journal.now c.load.new.self c.args.delivery
+    c.requires.kept
+    (sym c.has.ensures.exact ∙ c.if-has.false) c.in_ok-load.ensures.entries
+    c.in_ok-load.ensures.fresh
     c.in_ok-load.ensures.versions

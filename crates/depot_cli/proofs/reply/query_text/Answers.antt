@@ -27,7 +27,8 @@ returns c =
     ap (λ (table : TableOf). parts_met table.width c.args.item.from c.args.item.to)
     (sym c.table.view_is)
     ∙ c.parts_of_span-parts.ensures.exact in
-    let part_of : ℕ → ShownPart = λ part. shown_part c.args.served.now.desc c.args.journal.now.entries
+    let part_of : ℕ → ShownPart = λ part. shown_part c.args.served.now.desc
+    c.args.journal.now.entries
     (record { table = c.args.item.table; part = part }) in
     let parts : List ℕ = range_with_len c.parts_of_span-parts.result.first
     c.parts_of_span-parts.result.count in

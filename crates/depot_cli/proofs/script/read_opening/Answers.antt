@@ -15,7 +15,10 @@ lines-init g c = record {
   opened = rw c.requires.start (HasOpened-start _ _ c.new-draft.ensures.exact);
   few = rw c.new-draft.ensures.exact (omega arith);
   faults = refl;
-  kept = ReadsOn-same g.S.Source.bytes_left g.S.Source.loan c.args.reader.now (omega (arith, c.requires.start));
+  kept = ReadsOn-same g.S.Source.bytes_left g.S.Source.loan c.args.reader.now (omega (
+    arith,
+    c.requires.start,
+  ));
 }
 
 pub lines-preserved : goal.lines-preserved

@@ -10,6 +10,7 @@ pub returns-in-Err-ReadFault-clause-answer : goal.returns-in-Err-ReadFault-claus
 returns-in-Err-ReadFault-clause-answer g c =
     let exact = rw c.in-Err-ReadFault.field-0-is at c.in-Err-ReadFault.ensures.exact in
     line-untaken _ _ c.args.reader.now.taken c.next_line.new.self.taken
-    c.in-Err-ReadFault.ensures.kept.later (IfSome_then _ exact (λ bytes (reads : ReadsLine bytes c.args.reader.now.taken
+    c.in-Err-ReadFault.ensures.kept.later (IfSome_then _ exact (λ bytes (reads : ReadsLine bytes
+    c.args.reader.now.taken
     c.next_line.new.self.taken c.next_line.new.self.line (Err ReadFault)). reads.taken))
     c.in-Err-ReadFault.ensures.kept.left

@@ -13,7 +13,8 @@ pub loop-delivery-preserved : goal.loop-delivery-preserved
 loop-delivery-preserved c =
     let more = raw_version-take c.args.desc.now c.args.accepted.now c.args.key
     c.in-Some.table.now c.loop-delivery.delivery-index c.delivery-item.result c.touches.result
-    (sym c.in-Some.ensures.exact) c.loop-delivery-test.true c.delivery-item.is c.touches.ensures.exact in
+    (sym c.in-Some.ensures.exact) c.loop-delivery-test.true c.delivery-item.is
+    c.touches.ensures.exact in
     elim c.if-touches.branch [
       | then-touches w ↦
           let counted = rw w.if-touches.true at more in

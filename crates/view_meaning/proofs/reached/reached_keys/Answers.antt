@@ -23,7 +23,8 @@ push_above-requires-clause-earlier c =
 
 pub push_above-requires-clause-aligned : goal.push_above-requires-clause-aligned
 push_above-requires-clause-aligned c =
-    c.requires.aligned c.len-number.result c.nth_table-table.result.now c.nth_table-table.ensures.exact
+    c.requires.aligned c.len-number.result c.nth_table-table.result.now
+    c.nth_table-table.ensures.exact
 
 pub loop-parts-preserved : goal.loop-parts-preserved
 loop-parts-preserved c =

@@ -91,7 +91,8 @@ returns c =
     keys-unsettled c.args.served.now.desc c.args.journal.now _ _ _
     c.args.served.now.is_served.earlier c.requires.kept c.deref-key-items.ensures.value
     c.in_ok-keys.ensures.exact c.fresh.ensures.exact in
-    let drains : c.keys.journal.entries ≡ drained c.args.served.now.desc c.args.journal.now.entries =
+    let drains : c.keys.journal.entries ≡ drained c.args.served.now.desc
+    c.args.journal.now.entries =
     c.keys.invariant.installed
     ∙ ap (fold with_install c.args.journal.now.entries) (all ∙ unsettled_keys) in
     record {

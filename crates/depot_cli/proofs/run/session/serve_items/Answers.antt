@@ -24,7 +24,8 @@ items-preserved g c =
     record {
       served = rw c.is_refused-is_refused.ensures.exact
           (IfSome_then _ c.items.invariant.served (λ input served.
-          HasServed-item c.args.served.now.desc c.args.base (session c.args.served.now.desc c.args.base input)
+          HasServed-item c.args.served.now.desc c.args.base (session c.args.served.now.desc
+          c.args.base input)
           _ _ _ _ _ _ _ _ _ _ _ _ _ _ _ served answer c.in-Ok.ensures.replied
           c.in-Ok.ensures.room c.in-Ok.ensures.ok));
       kept = c.in-Ok.ensures.kept;
@@ -39,7 +40,8 @@ pub returns-in-Err-clause-run : goal.returns-in-Err-clause-run
 returns-in-Err-clause-run g c =
     let answer = rw c.in-Err.fault-is at c.in-Err.ensures.answer in
     let run = IfSome_then _ c.items.invariant.served (λ input served.
-    IsRun-stopped c.args.served.now.desc c.args.base (session c.args.served.now.desc c.args.base input)
+    IsRun-stopped c.args.served.now.desc c.args.base (session c.args.served.now.desc c.args.base
+    input)
     _ _ _ _ _ _ _ _ c.next_work.new.reader.taken _ _ _ served answer) in
     rw c.status_of.ensures.exact run
 

@@ -6,7 +6,8 @@ use Rattle.table_desc.proofs.grammar.selection.read_selection.Goals as goal
 pub loop-words-preserved : goal.loop-words-preserved
 loop-words-preserved c =
     let step = read_selection-step c.args.columns.now c.loop-words.words.now _
-    c.loop-words.conds.items c.in-Some.cond c.in-len4-up.len_at_least (rw c.in-Some.is at c.in_ok-cond.ensures.exact)
+    c.loop-words.conds.items c.in-Some.cond c.in-len4-up.len_at_least (rw c.in-Some.is at
+    c.in_ok-cond.ensures.exact)
     (sym c.is_word.ensures.exact ∙ c.if-is_word.false)
     (sym c.is_word-in-len4-up.ensures.exact ∙ c.if-not-is_word.false) in
     rw (c.in_ok-push-in-Some.ensures.items, take_rest c.loop-words.words.now 4)
