@@ -15,3 +15,4 @@ pub mod Drains
 pub mod Reached
 pub mod PartLists
 pub mod Shown
+pub mod Marks

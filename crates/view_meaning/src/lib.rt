@@ -24,4 +24,4 @@ pub use laws::{
 pub use parts::{Parts, parts_of_span};
 pub use plain::{plain_value, plain_version};
 pub use reached::reached_keys;
-pub use request::{Item, Mark, PinItem};
+pub use request::{Item, Mark, PinItem, compare_marks};

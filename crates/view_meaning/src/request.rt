@@ -1,5 +1,10 @@
 //! What a query asks for, and what it is shown of a partition beside the rows.
 
+ghost use Rattle.std.specs.Prelude.{◌≡◌};
+ghost use Rattle.std.specs.Ordering.{nat_cmp};
+ghost use Rattle.view_meaning.specs.Marks.{rank_of};
+
+use std::cmp::Ordering;
 use table_desc::Key;
 
 /// How settled the rows of a partition are, from least to most.
@@ -11,6 +16,13 @@ pub enum Mark {
     Closed,
     /// All rows that were expected are there.
     Complete,
+}
+
+/// How two marks are ordered: open before closed before complete.
+pub fn compare_marks(left: Mark, right: Mark) -> Ordering
+    ensures exact { result ≡ nat_cmp (rank_of left) (rank_of right) }
+{
+    left.cmp(&right)
 }
 
 /// One part of a query: the partitions of a table that share a tick with `from` up to, but not
