@@ -13,10 +13,10 @@ needs-rt:
 demo: needs-rt
 	@examples/demo.sh
 
-# Proves the program, keeps it, and runs it on its stored input.
+# Proves the program, keeps it, and lets it print its version.
 program: needs-rt
 	@echo "Proving takes 5 to 15 minutes the first time, and a few seconds if nothing has changed."
-	cd crates/depot_cli && rt run -- . trial < stdin
+	cd crates/depot_cli && rt run -- --version
 	@echo
 	@echo "The program: $(PROGRAM)"
 	@echo "To have it on the PATH as depot:"

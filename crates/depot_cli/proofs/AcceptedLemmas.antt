@@ -1,8 +1,8 @@
 -- A reading that serves is accepted: `IsAccepted-reading`. Each line asks for what fits the
 -- description, so each step does, and so does the journal.
-use Rattle.std.proofs.Common.{◌≡◌, ℕ, zero, suc, ◌+◌, ◌<◌, ◌≤◌, ◌^◌, ◌++◌, List, [], ◌∷◌, length}
+use Rattle.std.proofs.Common.{◌≡◌, ℕ, zero, suc, ◌<◌, ◌^◌, List, [], ◌∷◌, length}
 use Rattle.std.proofs.Common.{Bool, true, false, refl, sym, ap, ◌∙◌, subst, inl, inr, arith}
-use Rattle.std.specs.Prelude.{Option, Some, None, All, ⊤, if◌then◌else◌, nat_lt, codes, fold, ◌&&◌}
+use Rattle.std.specs.Prelude.{Option, Some, None, All, ⊤, if◌then◌else◌, codes, ◌&&◌}
 use Rattle.std.specs.Str.{bytes_eq}
 use Rattle.std.proofs.lemmas.Bool.{cases_Bool, ltb-true}
 use Rattle.std.proofs.lemmas.List.Elements.{All-cons, All-head, All-nil, All-tail}
@@ -14,7 +14,7 @@ use Rattle.table_desc.specs.declared.delivery.DRow.{DRow}
 use Rattle.table_desc.specs.Descriptions.{DescOf}
 use Rattle.table_desc.specs.Names.{find_feed}
 use Rattle.table_desc.specs.Words.{begins_comment, is_empty, words}
-use Rattle.table_desc.specs.Grammar.{Described, described}
+use Rattle.table_desc.specs.Grammar.{described}
 use Rattle.table_desc.proofs.DescribedLemmas.{described_is_served}
 use Rattle.view_meaning.specs.declared.journal.Entry.{Entry}
 use Rattle.view_meaning.specs.declared.journal.Entry.TheVariants as entry
@@ -31,9 +31,9 @@ use Rattle.depot_cli.specs.declared.script.work.Work.TheVariants as work
 use Rattle.depot_cli.specs.Orders.{asked, deliver_order, head_of, item_read, number_below, order_of}
 use Rattle.depot_cli.specs.Orders.{order_of_words, query_order, sized}
 use Rattle.depot_cli.specs.Reading.{NextLine, NoLine, Unreadable, Line, NextBody, Unfinished, Body}
-use Rattle.depot_cli.specs.Reading.{OpeningEnd, Go, Broken, Script, Serving, Session, Step, Ends}
-use Rattle.depot_cli.specs.Reading.{Does, body_due, body_step, body_work, line_due, line_step}
-use Rattle.depot_cli.specs.Reading.{load_of, next_body, next_line, opening, order_step, reading}
+use Rattle.depot_cli.specs.Reading.{OpeningEnd, Go, Broken, Serving, Session, Step, Ends}
+use Rattle.depot_cli.specs.Reading.{Does, body_due, body_step, line_due, line_step}
+use Rattle.depot_cli.specs.Reading.{load_of, next_body, next_line, opening, order_step}
 use Rattle.depot_cli.specs.Reading.{script_at, script_after, session, session_at, session_from}
 use Rattle.depot_cli.specs.Reading.{step_of}
 use Rattle.depot_cli.specs.SerialJournal.{journal_after, serial}

@@ -5,13 +5,12 @@ use Rattle.std.specs.Prelude.{Option, if◌then◌else◌, ◌⊎◌}
 use Rattle.std.specs.Io.KnownBytes.{Appends}
 use Rattle.depot_io.specs.Causes.{Rose}
 use Rattle.depot_io.specs.Puts.{HasRoomFor}
-use Rattle.depot_cli.specs.declared.run.status.Status.{Status}
 use Rattle.depot_cli.specs.declared.run.status.Status.TheVariants as status
 use Rattle.depot_cli.specs.declared.run.status.DescCause.{DescCause}
 use Rattle.depot_cli.specs.Reading.{Script, Unopened, Misdescribed, Serving, Session, SessionEnd}
 use Rattle.depot_cli.specs.Reading.{Ended, Stopped}
 use Rattle.depot_cli.specs.Replies.{has_refused}
-use Rattle.depot_cli.specs.Runs.{HasCompleteRuns, IsComplete, IsRun, replies_of, session_status}
+use Rattle.depot_cli.specs.Runs.{HasCompleteRuns, IsRun, replies_of, session_status}
 use Rattle.depot_cli.specs.Runs.{status_of}
 
 -- a session does not end with a bad description

@@ -11,7 +11,6 @@ use Rattle.table_desc.specs.Deliveries.{DeliveryOf}
 use Rattle.table_desc.specs.Descriptions.{DescOf}
 use Rattle.table_desc.specs.Tables.{TableOf}
 use Rattle.view_meaning.specs.declared.journal.Entry.{Entry}
-use Rattle.view_meaning.specs.declared.journal.Entry.TheVariants as entry
 use Rattle.view_meaning.specs.declared.request.Item.{Item}
 use Rattle.table_desc.specs.Sources.{width_of}
 use Rattle.view_meaning.specs.Partitions.{is_met, parts_met}
@@ -132,7 +131,7 @@ answer_text-run desc journal item table place first count there run =
     (length-map-range_with_len part_of first count)
 
 -- one partition more of a run is one text more
-pub parts-more : (name : List ℕ) (part_of : ℕ → ShownPart) (first part : ℕ)
+pub parts-push : (name : List ℕ) (part_of : ℕ → ShownPart) (first part : ℕ)
     (before text : List ℕ)
     → first ≤ part
     → text ≡ before
@@ -140,7 +139,7 @@ pub parts-more : (name : List ℕ) (part_of : ℕ → ShownPart) (first part : �
     → text ++ shown_text name (part_of part)
     ≡ before
     ++ flat_map (shown_text name) (map part_of (range_with_len first (part + 1 - first)))
-parts-more name part_of first part before text begun so_far =
+parts-push name part_of first part before text begun so_far =
     let count : part + 1 - first ≡ part - first + 1 = omega arith in
     let more = map-range_with_len_more part_of first (part - first) part (omega arith) in
     let parts_of : ℕ → List ShownPart = λ count. map part_of (range_with_len first count) in

@@ -1,5 +1,5 @@
 -- The run of an input, by its description and the session after it.
-use Rattle.std.proofs.Common.{◌≡◌, ℕ, List, length, refl, sym, ap, inl, inr, ◌∙◌, subst, IfSome}
+use Rattle.std.proofs.Common.{◌≡◌, ℕ, List, length, refl, sym, ap, ◌∙◌, subst, IfSome}
 use Rattle.std.specs.Prelude.{Option, Some, None, Ok, Err}
 use Rattle.std.proofs.KnownBytes.{Appends-nil}
 use Rattle.depot_cli.specs.declared.script.ScriptFault.{ScriptFault}
@@ -12,7 +12,7 @@ use Rattle.table_desc.specs.Grammar.{Described, described}
 use Rattle.depot_cli.specs.Reading.{OpeningEnd, Go, Broken, Script, Unopened, Misdescribed, Serving}
 use Rattle.depot_cli.specs.Reading.{opening, reading, script_at, script_after, session}
 use Rattle.depot_cli.specs.ScriptCalls.{IsBeforeGo, IsLeftOf, IsOpening, status_of_fault}
-use Rattle.depot_cli.specs.Runs.{GainsFrontOf, GainsTakenOf, HasCompleteRuns, IsRun}
+use Rattle.depot_cli.specs.Runs.{GainsFrontOf, GainsTakenOf, IsRun}
 use Rattle.depot_cli.proofs.KnownLemmas.{IfSome-each}
 use Rattle.depot_cli.proofs.EndLemmas.{GainsFront-start, GainsTaken-start}
 

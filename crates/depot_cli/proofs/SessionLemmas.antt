@@ -1,7 +1,7 @@
 -- How far a session was served: what was replied, what the journal has, and that what is left
 -- goes on to the session of the whole input.
 use Rattle.std.proofs.Common.{◌≡◌, ℕ, suc, zero, ◌+◌, ◌≤◌, List, [], ◌∷◌, ◌++◌, length, Bool, false}
-use Rattle.std.proofs.Common.{refl, sym, ap, ◌∙◌, arith, append_assoc, append-nil, length-append}
+use Rattle.std.proofs.Common.{refl, sym, ap, ◌∙◌, arith, append_assoc, length-append}
 use Rattle.std.proofs.Common.{subst}
 use Rattle.std.specs.Prelude.{IfSome, Option, Some, None, Ok, ◌||◌}
 use Rattle.std.specs.Io.KnownBytes.{Appends}
@@ -116,6 +116,79 @@ Appends-reply before now next text more all first second is_all =
     subst (λ (all : List ℕ). Appends before next all) is_all
     (Appends-trans before now next text more first second)
 
+-- what is left after an item goes on to the whole session
+goes_on-item : (desc : DescOf) (base turns taken taken_next : ℕ) (before rest : List ℕ)
+    (items : List Work) (dues : List ℕ) (work : Work) (due : ℕ) (whole : Session)
+    → step_of desc base taken before ≡ Does work due taken_next rest
+    → after_items items dues (session_from desc base (suc (suc turns)) taken before) ≡ whole
+    → after_items (items ++ work ∷ []) (dues ++ due ∷ [])
+    (session_from desc base (suc turns) taken_next rest)
+    ≡ whole
+goes_on-item desc base turns taken taken_next before rest items dues work due whole step goes_on =
+    sym (after_items-push items dues work due (session_from desc base (suc turns) taken_next rest))
+    ∙ session_next desc base (suc turns) taken before items dues whole
+    (Does work due taken_next rest) step goes_on
+
+-- the reply to an item, by the items before it
+reply-item : (desc : DescOf) (items : List Work) (work : Work) (line : ℕ) (journal : List Entry)
+    → line ≡ 1 + length items → journal ≡ serial desc [] items
+    → reply desc line journal work
+    ≡ reply desc (1 + length items) (serial desc [] items) work
+reply-item desc items work line journal counted journaled =
+    ap (λ (line : ℕ). reply desc line journal work) counted
+    ∙ ap (λ (journal : List Entry). reply desc (1 + length items) journal work) journaled
+
+-- an item's reply is put after those before it
+replied-item : (desc : DescOf) (items : List Work) (work : Work) (text : List ℕ)
+    (got_before got_now got_next : Option (List ℕ))
+    → text ≡ reply desc (1 + length items) (serial desc [] items) work
+    → Appends got_before got_now (replies desc 1 [] items) → Appends got_now got_next text
+    → Appends got_before got_next (replies desc 1 [] (items ++ work ∷ []))
+replied-item desc items work text got_before got_now got_next is_reply replied put =
+    Appends-reply got_before got_now got_next _ _ _ replied put
+    (ap (λ (text : List ℕ). replies desc 1 [] items ++ text) is_reply
+    ∙ sym (replies-push desc items work))
+
+-- an item's reply lowers the room that those before it left, if all replies fit
+room-item : (desc : DescOf) (all items more : List Work) (work : Work) (text : List ℕ)
+    (room_before room_now room_next : Option ℕ)
+    → all ≡ items ++ work ∷ more
+    → text ≡ reply desc (1 + length items) (serial desc [] items) work
+    → (HasRoomFor room_before (length (replies desc 1 [] all))
+    → room_now ≡ room_after room_before (length (replies desc 1 [] items)))
+    → (HasRoomFor room_now (length text) → room_next ≡ room_after room_now (length text))
+    → HasRoomFor room_before (length (replies desc 1 [] all))
+    → room_next ≡ room_after room_before (length (replies desc 1 [] (items ++ work ∷ [])))
+room-item desc all items more work text room_before room_now room_next splits is_reply before takes
+    fits =
+    let its_reply = reply desc (1 + length items) (serial desc [] items) work in
+    room_after-step room_before room_now room_next (length (replies desc 1 [] items))
+    (length its_reply) (length (replies desc 1 [] all))
+    (length-replies_front desc all items more work splits) before
+    (subst (λ (text : List ℕ). HasRoomFor room_now (length text)
+    → room_next ≡ room_after room_now (length text)) is_reply takes)
+    fits
+    ∙ ap (λ (count : ℕ). room_after room_before count)
+    (sym (ap length (replies-push desc items work)
+    ∙ length-append (replies desc 1 [] items) its_reply))
+
+-- an item changes the journal that those before it made
+journaled-item : (desc : DescOf) (items : List Work) (work : Work) (journal next : List Entry)
+    → journal ≡ serial desc [] items → next ≡ journal_after desc journal work
+    → next ≡ serial desc [] (items ++ work ∷ [])
+journaled-item desc items work journal next journaled is_next =
+    is_next
+    ∙ ap (λ (journal : List Entry). journal_after desc journal work) journaled
+    ∙ sym (fold-append (journal_after desc) [] items (work ∷ []))
+
+-- whether one was refused, with one item more
+told-item : (items : List Work) (work : Work) (refused : Bool) → refused ≡ has_refused items
+    → (refused || is_refused work) ≡ has_refused (items ++ work ∷ [])
+told-item items work refused told =
+    ap (λ (refused : Bool). refused || is_refused work) told
+    ∙ ap (λ (last : Bool). has_refused items || last) (sym (or-false (is_refused work)))
+    ∙ sym (list_any-append is_refused items (work ∷ []))
+
 -- an item that was done and replied to
 pub HasServed-item : (desc : DescOf) (base : ℕ) (whole : Session)
     (got_before got_now got_next : Option (List ℕ)) (room_before room_now room_next : Option ℕ)
@@ -136,28 +209,13 @@ HasServed-item desc base whole got_before got_now got_next room_before room_now 
     let step = IfSome-known left served.rest
     (λ bytes. IsStep (step_of desc base taken bytes) taken_next left_next (Ok (Some work)))
     served.is_left stepped in
-    behind served.turns step.due step.rest served.enough step.does step.is_left served.goes_on
+    after served.turns step.due step.rest served.enough step.does step.is_left served.goes_on
   where
-    at_item : reply desc line journal work
+    is_reply : reply desc line journal work
         ≡ reply desc (1 + length served.items) (serial desc [] served.items) work
-    at_item =
-        ap (λ (line : ℕ). reply desc line journal work) served.counted
-        ∙ ap (λ (journal : List Entry). reply desc (1 + length served.items) journal work)
-        served.journaled
+    is_reply = reply-item desc served.items work line journal served.counted served.journaled
 
-    splits : (turns due : ℕ) (rest : List ℕ)
-        → step_of desc base taken served.rest ≡ Does work due taken_next rest
-        → after_items served.items served.dues
-        (session_from desc base (suc (suc turns)) taken served.rest)
-        ≡ whole
-        → whole.items
-        ≡ served.items ++ work ∷ (session_from desc base (suc turns) taken_next rest).items
-    splits turns due rest step goes_on =
-        sym (ap (λ (session : Session). session.items)
-        (session_next desc base (suc turns) taken served.rest served.items served.dues whole
-        (Does work due taken_next rest) step goes_on))
-
-    behind : (turns due : ℕ) (rest : List ℕ) → length served.rest ≤ turns
+    after : (turns due : ℕ) (rest : List ℕ) → length served.rest ≤ turns
         → step_of desc base taken served.rest ≡ Does work due taken_next rest
         → left_next ≡ Some rest
         → after_items served.items served.dues
@@ -165,56 +223,37 @@ HasServed-item desc base whole got_before got_now got_next room_before room_now 
         ≡ whole
         → HasServed desc base whole got_before got_next room_before room_next journal_next
         (line + 1) (refused || is_refused work) taken_next left_next
-    behind zero due rest enough step is_left goes_on =
-        absurd (omega (
-          arith,
-          (step_of-leaves desc base taken served.rest rest work due taken_next step).fewer,
-        ))
-    behind (suc turns) due rest enough step is_left goes_on = record {
-      rest = rest;
-      items = served.items ++ work ∷ [];
-      dues = served.dues ++ due ∷ [];
-      turns = turns;
-      is_left = is_left;
-      enough = omega (
-        arith,
-        (step_of-leaves desc base taken served.rest rest work due taken_next step).fewer,
-      );
-      paired = omega (
-        arith,
-        served.paired,
-        length-append served.items (work ∷ []),
-        length-append served.dues (due ∷ []),
-      );
-      goes_on = sym (after_items-push served.items served.dues work due
-          (session_from desc base (suc turns) taken_next rest))
-          ∙ session_next desc base (suc turns) taken served.rest served.items served.dues whole
-          (Does work due taken_next rest) step goes_on;
-      replied = Appends-reply got_before got_now got_next _ _ _ served.replied put
-          (ap (λ (text : List ℕ). replies desc 1 [] served.items ++ text) at_item
-          ∙ sym (replies-push desc served.items work));
-      room = λ fits.
-          room_after-step room_before room_now room_next
-          (length (replies desc 1 [] served.items))
-          (length (reply desc (1 + length served.items) (serial desc [] served.items) work))
-          (length (replies desc 1 [] whole.items))
-          (length-replies_front desc whole.items served.items
-          (session_from desc base (suc turns) taken_next rest).items work (splits turns due rest
-          step goes_on))
-          served.room
-          (subst (λ (text : List ℕ). HasRoomFor room_now (length text)
-          → room_next ≡ room_after room_now (length text)) at_item takes)
-          fits
-          ∙ ap (λ (count : ℕ). room_after room_before count)
-          (sym (ap length (replies-push desc served.items work)
-          ∙ length-append (replies desc 1 [] served.items)
-          (reply desc (1 + length served.items) (serial desc [] served.items) work)));
-      journaled = next
-          ∙ ap (λ (journal : List Entry). journal_after desc journal work) served.journaled
-          ∙ sym (fold-append (journal_after desc) [] served.items (work ∷ []));
-      counted = omega (arith, served.counted, length-append served.items (work ∷ []));
-      told = ap (λ (refused : Bool). refused || is_refused work) served.told
-          ∙ ap (λ (last : Bool). has_refused served.items || last)
-          (sym (or-false (is_refused work)))
-          ∙ sym (list_any-append is_refused served.items (work ∷ []));
-    }
+    after zero due rest enough step is_left goes_on =
+        let leaves = step_of-leaves desc base taken served.rest rest work due taken_next step in
+        absurd (omega (arith, leaves.fewer))
+    after (suc turns) due rest enough step is_left goes_on =
+        let leaves = step_of-leaves desc base taken served.rest rest work due taken_next step in
+        let splits = sym (ap (λ (session : Session). session.items)
+        (session_next desc base (suc turns) taken served.rest served.items served.dues whole
+        (Does work due taken_next rest) step goes_on)) in
+        record {
+          rest = rest;
+          items = served.items ++ work ∷ [];
+          dues = served.dues ++ due ∷ [];
+          turns = turns;
+          is_left = is_left;
+          enough = omega (arith, leaves.fewer);
+          paired = omega (
+            arith,
+            served.paired,
+            length-append served.items (work ∷ []),
+            length-append served.dues (due ∷ []),
+          );
+          goes_on = goes_on-item desc base turns taken taken_next served.rest rest served.items
+              served.dues work due whole step goes_on;
+          replied = replied-item desc served.items work (reply desc line journal work) got_before
+              got_now got_next is_reply served.replied put;
+          room = room-item desc whole.items served.items
+              (session_from desc base (suc turns) taken_next rest).items work
+              (reply desc line journal work) room_before room_now room_next splits is_reply
+              served.room takes;
+          journaled = journaled-item desc served.items work journal journal_next served.journaled
+              next;
+          counted = omega (arith, served.counted, length-append served.items (work ∷ []));
+          told = told-item served.items work refused served.told;
+        }

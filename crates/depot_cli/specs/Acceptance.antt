@@ -3,7 +3,7 @@ use Rattle.std.specs.Prelude.{ℕ, ◌≡◌, List, []}
 use Rattle.table_desc.specs.Descriptions.{DescOf}
 use Rattle.table_desc.specs.Served.{IsServed}
 use Rattle.view_meaning.specs.Journal.{FitsJournal}
-use Rattle.depot_cli.specs.Reading.{Script, Serving, Session, reading}
+use Rattle.depot_cli.specs.Reading.{Serving, Session, reading}
 use Rattle.depot_cli.specs.SerialJournal.{serial}
 
 -- the description is served, and the journal that the items of the session make fits it

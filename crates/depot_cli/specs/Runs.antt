@@ -1,6 +1,6 @@
 -- What a run answers, writes and leaves, by the reading of its input.
 use Rattle.std.specs.Prelude.{ℕ, ◌≡◌, ◌≤◌, ◌+◌, List, [], ◌∷◌, ◌++◌, Bool, true, false, ⊤}
-use Rattle.std.specs.Prelude.{if◌then◌else◌, ◌||◌, ◌⊎◌, nat_le, length, take, drop, All, codes}
+use Rattle.std.specs.Prelude.{if◌then◌else◌, ◌||◌, ◌⊎◌, length, take, drop, All, codes}
 use Rattle.std.specs.Prelude.{Some, None}
 use Rattle.std.specs.declared.option.Option.{Option}
 use Rattle.std.specs.Io.KnownBytes.{Appends}

@@ -1,6 +1,6 @@
 -- The texts of the replies. Each line ends with LF, and numbers are in the shortest decimal form.
 use Rattle.std.specs.Prelude.{ℕ, List, [], ◌∷◌, ◌++◌, codes, decimal, length, map, flat_map}
-use Rattle.std.specs.Prelude.{slice_get, Option, Some, None}
+use Rattle.std.specs.Prelude.{slice_get, Option, Some, None, ◌≡◌, take}
 use Rattle.csv.specs.Writing.{row_text, default_writer}
 use Rattle.depot_cell.specs.declared.cell.Cell.{Cell}
 use Rattle.depot_cell.specs.Spelling.{text_of}
@@ -67,6 +67,11 @@ part_text table item rows =
     ++ codes " version " ++ decimal item.version
     ++ codes " upto " ++ decimal item.upto ++ codes " mark " ++ mark_text item.mark
     ++ codes " rows " ++ decimal rows ++ line_end
+
+-- the fields are the texts of the first so many cells of a row
+pub record AreFrontOf (row : List Cell) (fields : List (List ℕ)) : Type 0 where
+  pub many : ℕ
+  pub texts : fields ≡ map text_of (take many row)
 
 -- rows as CSV: for each the text of its cells, by the CSV writer with its default setup
 abbrev pub rows_text : List (List Cell) → List ℕ

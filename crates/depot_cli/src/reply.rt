@@ -6,6 +6,7 @@ pub mod texts;
 ghost use Rattle.std.specs.Prelude.{◌≡◌, ◌+◌, ◌<◌, ◌≤◌, ◌^◌, ◌++◌, true, false, length, map};
 ghost use Rattle.std.specs.Prelude.{flat_map, IfOk, OnErr, OnOk, slice_get, option_copied, Some};
 ghost use Rattle.table_desc.specs.Time.{END};
+ghost use Rattle.view_meaning.specs.Growth.{BeginsWith};
 ghost use Rattle.view_meaning.specs.Shown.{shown, shown_part};
 ghost use Rattle.view_meaning.specs.Versions.{is_raw_kind};
 ghost use Rattle.view_meaning.specs.Drains.{drained};
@@ -158,9 +159,10 @@ fn put_parts(
     requires in_time { parts.first + parts.count < 2 ^ 64 }
     ensures ok { OnOk result (text.new.items ≡ text.old.items
         ++ flat_map (shown_text table.now.name) (map
-        (λ part. shown_part served.now.desc journal.now.entries (record
-        { table = number; part = part }))
+        (λ part. shown_part served.now.desc journal.now.entries
+        (record { table = number; part = part }))
         (range_with_len parts.first parts.count))) }
+    ensures err { OnErr result (BeginsWith text.old.items text.new.items) }
 {
     'parts: for part in parts.first..parts.first + parts.count {
         let key = Key {

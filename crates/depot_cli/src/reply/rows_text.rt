@@ -1,9 +1,9 @@
 //! Rows as CSV text.
 
-ghost use Rattle.std.specs.Prelude.{◌≡◌, [], IfOk, OnOk, map};
+ghost use Rattle.std.specs.Prelude.{◌≡◌, [], IfOk, OnErr, OnOk, map};
 ghost use Rattle.csv.specs.Records.{fields_of, partial_of};
 ghost use Rattle.depot_cell.specs.Spelling.{text_of};
-ghost use Rattle.depot_cli.specs.Texts.{rows_text};
+ghost use Rattle.depot_cli.specs.Texts.{AreFrontOf, rows_text};
 
 use csv::{ByteRecord, WriterBuilder};
 use depot_cell::{Memory, Row, Rows, cell_text};
@@ -33,6 +33,7 @@ pub fn rows_text(alloc: Global, rows: &Rows) -> Result<Vec<u8>, Memory>
 fn put_cells(alloc: Global, row: &Row, fields: &mut ByteRecord) -> Result<(), Memory>
     ensures exact { OnOk result (fields_of fields.new ≡ map text_of row.now) }
     ensures whole { OnOk result (partial_of fields.new ≡ []) }
+    ensures err { OnErr result (AreFrontOf row.now (fields_of fields.new)) }
 {
     fields.clear();
     for cell in row.cells() {

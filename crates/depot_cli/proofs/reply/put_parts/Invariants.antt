@@ -9,6 +9,6 @@ use Rattle.depot_cli.proofs.reply.put_parts.Given as goal
 abbrev pub invariant-parts : goal.invariant-parts
 invariant-parts l = l.text.items ≡ l.fn.text.items
     ++ flat_map (shown_text l.table.name)
-    (map (λ part. shown_part l.served.desc l.journal.entries (record
-    { table = l.number; part = part }))
+    (map (λ part. shown_part l.served.desc l.journal.entries
+    (record { table = l.number; part = part }))
     (range_with_len l.fn.parts.first (l.part - l.fn.parts.first)))

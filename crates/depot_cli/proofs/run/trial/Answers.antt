@@ -1,5 +1,5 @@
 -- The run is that of the session after the description, if that was read.
-use Rattle.std.proofs.Common.{sym, ◌∙◌, Some}
+use Rattle.std.proofs.Common.{sym, ◌∙◌}
 use Rattle.std.proofs.lemmas.Option.{IfSome_then}
 use Rattle.depot_cli.proofs.RunLemmas.{IsRun-misdescribed, IsRun-opened, IsRun-unopened}
 use Rattle.depot_cli.proofs.run.trial.Goals as goal
