@@ -71,6 +71,28 @@ opening_at-line : (more : List ℕ → Opening) (taken : ℕ) (bytes line rest :
     → opening_at more taken bytes (Line line rest) ≡ after_line line (more rest)
 opening_at-line more taken bytes line rest goes = rw goes refl
 
+-- what is left after a line that does not end the opening goes on to the whole
+goes_on-line : (whole : Opening) (lines : List (List ℕ)) (turns taken taken_now : ℕ)
+    (before line rest : List ℕ)
+    → taken_now ≡ taken + line_take before → next_line taken before ≡ Line line rest
+    → is_go (words line) ≡ false
+    → after_lines lines (opening_from (suc (suc turns)) taken before) ≡ whole
+    → after_lines (lines ++ line ∷ []) (opening_from (suc turns) taken_now rest) ≡ whole
+goes_on-line whole lines turns taken taken_now before line rest count next goes goes_on =
+    let more = opening_from (suc turns) (taken + line_take before) in
+    ap (λ (taken : ℕ). after_lines (lines ++ line ∷ []) (opening_from (suc turns) taken rest)) count
+    ∙ sym (after_lines-push lines line (more rest))
+    ∙ ap (λ (opening : Opening). after_lines lines opening)
+    (sym (opening_at-line more taken before line rest goes))
+    ∙ opening_next whole lines (suc turns) taken before (Line line rest) next goes_on
+
+-- the lines read describe one line more
+describes-line : (lines : List (List ℕ)) (before : Described) (line : List ℕ)
+    → before ≡ described lines → with_line before line ≡ described (lines ++ line ∷ [])
+describes-line lines before line describes =
+    ap (λ (before : Described). with_line before line) describes
+    ∙ sym (fold-append with_line nothing_described lines (line ∷ []))
+
 -- a line that does not end the description is added to it
 pub HasOpened-line : (whole : Opening) (before : Described) (taken taken_now place : ℕ)
     (line : List ℕ) (there : Bool) (left left_now : Option (List ℕ))
@@ -87,36 +109,25 @@ HasOpened-line whole before taken taken_now place line there left left_now opene
     opened.is_left is_there answer in
     let count = IfSome-known left opened.rest (λ bytes. taken_now ≡ taken + line_take bytes)
     opened.is_left counted in
-    behind opened.turns answered.0 count opened.enough answered.1 answered.2
-    opened.describes opened.goes_on
+    after opened.turns answered.0 count opened.enough answered.1 answered.2 opened.goes_on
   where
-    behind : (turns : ℕ) (rest : List ℕ) → taken_now ≡ taken + line_take opened.rest
+    after : (turns : ℕ) (rest : List ℕ) → taken_now ≡ taken + line_take opened.rest
         → length opened.rest ≤ turns
         → next_line taken opened.rest ≡ Line line rest → left_now ≡ Some rest
-        → before ≡ described opened.lines
         → after_lines opened.lines (opening_from (suc turns) taken opened.rest) ≡ whole
         → HasOpened whole (with_line before line) taken_now left_now
-    behind zero rest count enough next is_left describes goes_on =
+    after zero rest count enough next is_left goes_on =
         absurd (omega (arith, (next_line-shorter taken opened.rest line rest next).0))
-    behind (suc turns) rest count enough next is_left describes goes_on = record {
+    after (suc turns) rest count enough next is_left goes_on = record {
       rest = rest;
       lines = opened.lines ++ line ∷ [];
       turns = turns;
       is_left = is_left;
       enough = omega (arith, (next_line-shorter taken opened.rest line rest next).0);
-      describes = ap (λ (before : Described). with_line before line) describes
-          ∙ sym (fold-append with_line nothing_described opened.lines (line ∷ []));
-      goes_on = ap (λ (taken : ℕ).
-          after_lines (opened.lines ++ line ∷ []) (opening_from (suc turns) taken rest)) count
-          ∙ sym (after_lines-push opened.lines line (more rest))
-          ∙ ap (λ (opening : Opening). after_lines opened.lines opening)
-          (sym (opening_at-line more taken opened.rest line rest goes))
-          ∙ opening_next whole opened.lines (suc turns) taken opened.rest (Line line rest) next
-          goes_on;
+      describes = describes-line opened.lines before line opened.describes;
+      goes_on = goes_on-line whole opened.lines turns taken taken_now opened.rest line rest count
+          next goes goes_on;
     }
-      where
-        more : List ℕ → Opening
-        more = opening_from (suc turns) (taken + line_take opened.rest)
 
 -- what stands after the `go` line is no more than is due of the first line
 opening_at-left : (more : List ℕ → Opening) (taken taken_now : ℕ) (bytes rest : List ℕ)
