@@ -6,8 +6,6 @@ pub mod session;
 pub mod status;
 
 ghost use Rattle.std.specs.Prelude.{◌≡◌, ◌↔◌, ◌≤◌, IfSome, IfOk, true, false, map, string_bytes};
-ghost use Rattle.std.specs.Io.KnownBytes.{Keeps};
-ghost use Rattle.depot_io.specs.Causes.{Rose};
 ghost use Rattle.depot_io.specs.Lines.{LIMIT};
 ghost use Rattle.depot_cli.specs.Reading.{Serving, opening, reading, session};
 ghost use Rattle.depot_cli.specs.ScriptCalls.{IsOpened, IsScriptCause};

@@ -4,7 +4,7 @@
 //! delivery's feed, the others are the row's cells. Records are numbered from 1.
 
 ghost use Rattle.std.specs.Prelude.{◌≡◌, ◌<◌, ◌≤◌, ◌&&◌, IfOk, IfSome, Some, drop, length};
-ghost use Rattle.std.specs.Prelude.{option_map, position, slice_get};
+ghost use Rattle.std.specs.Prelude.{option_map, position};
 ghost use Rattle.std.specs.Str.{bytes_eq};
 ghost use Rattle.csv.specs.Reading.{reader_source};
 ghost use Rattle.csv.specs.Records.{fields_of};

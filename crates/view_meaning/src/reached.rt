@@ -2,7 +2,7 @@
 //! settled. For each table in order its partitions are listed by number: those that rows of the
 //! deliveries lie in, and those that read a listed one of an earlier table.
 
-ghost use Rattle.std.specs.Prelude.{ℕ, ◌≡◌, ◌<◌, ◌≤◌, ◌++◌, ◌∷◌, ◌||◌, ◌+◌, ◌/◌, List, [], Some};
+ghost use Rattle.std.specs.Prelude.{ℕ, ◌≡◌, ◌<◌, ◌≤◌, ◌++◌, ◌∷◌, ◌+◌, ◌/◌, [], Some};
 ghost use Rattle.std.specs.Prelude.{IfOk, OnErr, OnOk, IsSome, All, length, map, option_to_list};
 ghost use Rattle.std.specs.Prelude.{slice_get, slice_set, vec_len};
 ghost use Rattle.std.specs.List.{list_any};

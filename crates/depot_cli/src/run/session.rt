@@ -1,7 +1,6 @@
 //! A session: each item is read, done and replied to before the next one is read.
 
 ghost use Rattle.std.specs.Prelude.{◌≡◌, ◌≤◌, [], IfErr, IfSome, OnOk, if◌then◌else◌};
-ghost use Rattle.depot_io.specs.Causes.{Rose};
 ghost use Rattle.depot_io.specs.Lines.{LIMIT};
 ghost use Rattle.depot_cli.specs.Reading.{Serving, session};
 ghost use Rattle.depot_cli.specs.ScriptCalls.{IsAnswerable, IsItemCut, IsReplied, IsReplyCause};

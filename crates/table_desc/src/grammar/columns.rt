@@ -1,7 +1,7 @@
 //! The columns of a table: those that words `NAME:TYPE` declare, and those that a view keeps.
 
-ghost use Rattle.std.specs.Prelude.{◌≡◌, ◌<◌, ◌≤◌, ◌++◌, [], ◌∷◌, length, map, option_map};
-ghost use Rattle.std.specs.Prelude.{position, IfOk, IfSome, OnOk};
+ghost use Rattle.std.specs.Prelude.{◌≡◌, ◌<◌, ◌≤◌, [], length, map, option_map};
+ghost use Rattle.std.specs.Prelude.{position, IfOk, IfSome};
 ghost use Rattle.std.specs.Str.{bytes_eq};
 ghost use Rattle.std.specs.List.{list_any};
 ghost use Rattle.table_desc.specs.Columns.{are_columns, are_different, column_from, find_column};

@@ -7,7 +7,7 @@ ghost use Rattle.table_desc.specs.Served.{IsNextTable, IsServed};
 ghost use Rattle.table_desc.specs.Names.{is_name};
 ghost use Rattle.table_desc.specs.Grammar.{Described, declared_by, described, is_free};
 ghost use Rattle.table_desc.specs.Grammar.{nothing_described, read_table, with_declared};
-ghost use Rattle.table_desc.specs.Grammar.{with_feed, with_line, with_table};
+ghost use Rattle.table_desc.specs.Grammar.{with_line, with_table};
 
 use crate::grammar::filter::read_filter;
 use crate::grammar::names::{find_table, is_name, name_text};

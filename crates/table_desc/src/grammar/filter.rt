@@ -1,7 +1,6 @@
 //! Filters: a source, conditions on its rows, and the columns that are kept.
 
 ghost use Rattle.std.specs.Prelude.{◌≡◌, ◌≤◌, length, map, IfOk, IsTrue, Some};
-ghost use Rattle.std.specs.Str.{bytes_eq};
 ghost use Rattle.table_desc.specs.Names.{is_name};
 ghost use Rattle.table_desc.specs.Filters.{filter_over, filter_from, read_filter, filter_table};
 ghost use Rattle.table_desc.specs.Filters.{is_filter, is_multiple, is_no_offset, reads_few};

@@ -1,7 +1,6 @@
 //! Raw tables: a feed, a width, a time column and columns.
 
 ghost use Rattle.std.specs.Prelude.{◌≡◌, map, IfOk, IsTrue};
-ghost use Rattle.std.specs.Str.{bytes_eq};
 ghost use Rattle.table_desc.specs.Names.{is_name};
 ghost use Rattle.table_desc.specs.RawTables.{are_raw_keywords, raw_table_from, read_raw_table};
 ghost use Rattle.table_desc.specs.RawTables.{raw_table, read_width};

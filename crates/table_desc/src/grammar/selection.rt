@@ -1,7 +1,6 @@
 //! What a filter keeps: conditions on the columns of its source, and which of these it keeps.
 
-ghost use Rattle.std.specs.Prelude.{◌≡◌, ◌≤◌, ◌++◌, [], ◌∷◌, length, map, option_map, IfOk, OnErr};
-ghost use Rattle.std.specs.Prelude.{OnOk};
+ghost use Rattle.std.specs.Prelude.{◌≡◌, ◌≤◌, length, map, option_map, IfOk};
 ghost use Rattle.table_desc.specs.Columns.{find_columns};
 ghost use Rattle.table_desc.specs.Selections.{cond_of, op_named, read_selection};
 
