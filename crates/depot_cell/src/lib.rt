@@ -13,8 +13,6 @@ mod reading;
 mod row;
 mod short_text;
 mod spelling;
-#[cfg(test)]
-mod tests;
 
 pub use cell::{Cell, CellFault, Op, Ty, copy_cell};
 pub use comparing::holds;

@@ -19,6 +19,3 @@ pub use line_reader::{Line, LineFault, LineReader};
 pub use sink::{Sink, WriteFault, put_all};
 pub use source::{Failed, Source};
 pub use standard::{Printer, StdSink, StdSource};
-
-#[cfg(test)]
-mod tests;

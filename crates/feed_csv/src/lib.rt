@@ -5,7 +5,5 @@
 #![tactic(auto)]
 
 mod body;
-#[cfg(test)]
-mod tests;
 
 pub use body::{read_rows, rows_fit};

@@ -22,6 +22,3 @@ pub use served::ServedDesc;
 pub use table::{Column, Desc, Feed, Key, Table, compare_keys};
 pub use time::{END, Span, Width, time_ends_as_defined};
 pub use view::{Agg, Cond, Fun, Kind, Pair, Src};
-
-#[cfg(test)]
-mod tests;

@@ -13,8 +13,6 @@ mod parts;
 mod plain;
 mod reached;
 mod request;
-#[cfg(test)]
-mod tests;
 
 pub use journal::{Entry, Loaded};
 pub use laws::{

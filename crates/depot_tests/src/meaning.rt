@@ -1,15 +1,15 @@
-//! What no contract says: that each call succeeds if there is memory, and cases from outside.
+//! Values, versions and partitions, worked by hand.
 
 ghost use Rattle.std.specs.Prelude.{pos, ◌≡◌, ◌≤◌, ◌∷◌, [], IfOk, length};
 ghost use Rattle.table_desc.specs.Kinds.{kind_of};
 ghost use Rattle.table_desc.specs.Time.{IsWidth};
 ghost use Rattle.table_desc.specs.Sources.{HasAlignedSources, HasEarlierSources, kind_sources};
 
-use crate::{Parts, parts_of_span, plain_value, plain_version, reached_keys};
 use depot_cell::{Cell, Op, Row, Str};
 use std::alloc::Global;
 use std::test::Fail;
 use table_desc::{Cond, DRow, Delivery, Desc, END, Key, Kind, Span, Src, Table, Width};
+use view_meaning::{Parts, parts_of_span, plain_value, plain_version, reached_keys};
 
 /// A table in partitions of so many ticks. It names no columns, since no call here looks at them.
 fn table(alloc: Global, ticks: u64, kind: Kind) -> Result<Table, Fail>

@@ -1,7 +1,7 @@
 //! Bodies: which rows they give, and which are refused.
 
-use crate::read_rows;
 use depot_cell::cell_text;
+use feed_csv::read_rows;
 use std::alloc::Global;
 use std::test::Fail;
 use table_desc::{DRow, Draft, ServedDesc};

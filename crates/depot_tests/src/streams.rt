@@ -1,4 +1,6 @@
-use crate::{
+//! Sources, sinks, lines and bodies.
+
+use depot_io::{
     Failed, Line, LineFault, LineReader, Memory, NeverSource, PutTo, ReadAhead, Sink, Source,
     StdSink, StdSource, VecSink, VecSource, WriteFault, put_all,
 };

@@ -1,6 +1,6 @@
-//! What no contract says: that each call succeeds if there is memory, and cases from outside.
+//! Cells, their texts and orders, and rows.
 
-use crate::{
+use depot_cell::{
     Cell, CellFault, Op, Row, Rows, Str, Ty, cell_text, copy_cell, copy_row, holds, read_cell,
     read_number,
 };

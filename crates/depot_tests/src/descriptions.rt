@@ -2,13 +2,13 @@
 
 ghost use Rattle.std.specs.Prelude.{◌<◌, length};
 
-use crate::{
-    Draft, Kind, begins_comment, field_cell, find_feed, find_table, is_go, is_name, is_skipped,
-    is_word, words_of,
-};
 use depot_cell::{Memory, Ty, cell_text};
 use std::alloc::Global;
 use std::test::Fail;
+use table_desc::{
+    Draft, Kind, begins_comment, field_cell, find_feed, find_table, is_go, is_name, is_skipped,
+    is_word, words_of,
+};
 
 const FEED: &str = "feed f";
 

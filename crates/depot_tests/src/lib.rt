@@ -1,0 +1,16 @@
+//! Tests of the crates below the program: that each call succeeds if there is memory, and cases
+//! from outside.
+//!
+//! They stand in a crate of their own, since the gate proves a crate with tests twice.
+#![tactic(auto)]
+
+#[cfg(test)]
+mod bodies;
+#[cfg(test)]
+mod cells;
+#[cfg(test)]
+mod descriptions;
+#[cfg(test)]
+mod meaning;
+#[cfg(test)]
+mod streams;
