@@ -13,7 +13,7 @@ use Rattle.table_desc.specs.Tables.{TableOf}
 use Rattle.view_meaning.specs.declared.journal.Entry.{Entry}
 use Rattle.view_meaning.specs.declared.request.Item.{Item}
 use Rattle.table_desc.specs.Sources.{width_of}
-use Rattle.view_meaning.specs.Partitions.{is_met, parts_met}
+use Rattle.partition_map.specs.Partitions.{is_met, parts_met}
 use Rattle.view_meaning.specs.Journal.{accepted, is_repeat}
 use Rattle.view_meaning.specs.Shown.{ShownPart, shown, shown_part}
 use Rattle.view_meaning.specs.Values.{value}
@@ -22,7 +22,7 @@ use Rattle.view_meaning.specs.declared.request.Mark.TheVariants as mark
 use Rattle.view_meaning.proofs.ContentLemmas.{value-empty}
 use Rattle.depot_cli.specs.declared.book.version.Version.{Version}
 use Rattle.depot_cli.specs.KeptJournals.{latest, version_made}
-use Rattle.view_meaning.proofs.ListLemmas.{filter-none}
+use Rattle.partition_map.proofs.ListLemmas.{filter-none}
 use Rattle.view_meaning.proofs.SetAsideLemmas.{kept_rows-all, aside_rows-none}
 use Rattle.depot_cli.specs.Replies.{load_reply}
 use Rattle.depot_cli.specs.Texts.{answer_line, answer_text, feed_name, loaded_text, shown_text}

@@ -10,7 +10,7 @@ use Rattle.depot_cli.specs.declared.run.status.Status.{Status}
 use Rattle.depot_cli.specs.declared.run.status.Status.TheVariants as status
 use Rattle.depot_cli.specs.declared.script.work.Work.{Work}
 use Rattle.depot_cli.specs.declared.script.work.Work.TheVariants as work
-use Rattle.table_desc.specs.Time.{END}
+use Rattle.partition_map.specs.Time.{END}
 use Rattle.table_desc.specs.Descriptions.{DescOf}
 use Rattle.depot_cli.specs.SerialJournal.{journal_after}
 use Rattle.depot_cli.specs.KeptJournals.{IsCutShort, JournalOf}

@@ -5,7 +5,7 @@ pub mod texts;
 
 ghost use Rattle.std.specs.Prelude.{◌≡◌, ◌+◌, ◌<◌, ◌≤◌, ◌^◌, ◌++◌, true, false, length, map};
 ghost use Rattle.std.specs.Prelude.{flat_map, IfOk, OnErr, OnOk, slice_get, option_copied, Some};
-ghost use Rattle.table_desc.specs.Time.{END};
+ghost use Rattle.partition_map.specs.Time.{END};
 ghost use Rattle.view_meaning.specs.Growth.{BeginsWith};
 ghost use Rattle.view_meaning.specs.Shown.{shown, shown_part};
 ghost use Rattle.view_meaning.specs.Versions.{is_raw_kind};

@@ -2,7 +2,7 @@
 
 ghost use Rattle.std.specs.Prelude.{pos, ◌≡◌, ◌≤◌, ◌∷◌, [], IfOk, length};
 ghost use Rattle.table_desc.specs.Kinds.{kind_of};
-ghost use Rattle.table_desc.specs.Time.{IsWidth};
+ghost use Rattle.partition_map.specs.Time.{IsWidth};
 ghost use Rattle.table_desc.specs.Sources.{HasAlignedSources, HasEarlierSources, kind_sources};
 
 use depot_cell::{Cell, Op, Row, Str};

@@ -16,7 +16,7 @@ use Rattle.table_desc.specs.declared.delivery.DRow.{DRow}
 use Rattle.table_desc.specs.Descriptions.{DescOf}
 use Rattle.table_desc.specs.Tables.{TableOf}
 use Rattle.table_desc.specs.KindValues.{KindOf, Raw, Filter, Group, Join}
-use Rattle.table_desc.specs.Time.{END}
+use Rattle.partition_map.specs.Time.{END}
 use Rattle.view_meaning.specs.Journal.{row_tick}
 use Rattle.table_desc.specs.Front.{with_first}
 

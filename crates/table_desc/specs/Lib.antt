@@ -1,4 +1,3 @@
-pub mod Time
 pub mod KindValues
 pub mod Kinds
 pub mod Tables

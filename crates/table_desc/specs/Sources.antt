@@ -1,7 +1,7 @@
 -- What a description says of the sources of its views.
 use Rattle.std.specs.Prelude.{ℕ, pos, ◌<◌, ◌≡◌, ◌%◌, List, [], ◌∷◌, Option, Some, None, slice_get}
 use Rattle.std.specs.Prelude.{All}
-use Rattle.table_desc.specs.declared.time.Span.{Span}
+use Rattle.partition_map.specs.declared.time.Span.{Span}
 use Rattle.table_desc.specs.declared.view.Src.{Src}
 use Rattle.table_desc.specs.Descriptions.{DescOf}
 use Rattle.table_desc.specs.Tables.{TableOf}

@@ -10,7 +10,6 @@ mod delivery;
 mod grammar;
 mod served;
 mod table;
-mod time;
 mod view;
 
 pub use delivery::{DRow, Delivery};
@@ -18,7 +17,7 @@ pub use grammar::{
     Draft, begins_comment, described_is_served, field_cell, find_feed, find_table, is_go, is_name,
     is_skipped, is_word, words_of,
 };
+pub use partition_map::{END, Span, Width};
 pub use served::ServedDesc;
 pub use table::{Column, Desc, Feed, Key, Table, compare_keys};
-pub use time::{END, Span, Width, time_ends_as_defined};
 pub use view::{Agg, Cond, Fun, Kind, Pair, Src};

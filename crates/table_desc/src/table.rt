@@ -3,9 +3,9 @@
 ghost use Rattle.std.specs.Prelude.{◌≡◌};
 ghost use Rattle.table_desc.specs.Keys.{key_cmp};
 
-use crate::time::Width;
 use crate::view::Kind;
 use depot_cell::{Str, Ty};
+use partition_map::Width;
 use std::cmp::Ordering;
 use std::marker::Model;
 

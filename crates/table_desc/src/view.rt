@@ -1,7 +1,7 @@
 //! What fills a table: the deliveries of a feed, or the rows of other tables.
 
-use crate::time::Span;
 use depot_cell::{Cell, Op};
+use partition_map::Span;
 
 /// A source of a view: a table declared before it, and the span that is read of it.
 #[derive(Clone, Copy, Debug, PartialEq, Eq)]

@@ -8,10 +8,11 @@ use Rattle.table_desc.specs.Descriptions.{DescOf}
 use Rattle.table_desc.specs.Tables.{TableOf}
 use Rattle.table_desc.specs.KindValues.{KindOf, Raw, Filter, Group, Join}
 use Rattle.table_desc.specs.Sources.{width_of}
-use Rattle.table_desc.specs.Time.{END}
+use Rattle.partition_map.specs.Time.{END}
 use Rattle.view_meaning.specs.declared.journal.Entry.{Entry}
 use Rattle.view_meaning.specs.declared.journal.Entry.TheVariants as entry
-use Rattle.view_meaning.specs.Partitions.{start_of, end_of, is_met, is_part}
+use Rattle.partition_map.specs.Partitions.{start_of, end_of, is_met}
+use Rattle.view_meaning.specs.Partitions.{is_part}
 use Rattle.view_meaning.specs.Journal.{IsView, IsPartOfView, FitsEntry, FitsJournal}
 use Rattle.view_meaning.specs.Versions.{is_raw, is_raw_kind}
 use Rattle.view_meaning.specs.Drains.{all_view_keys, unsettled, with_install, HasFittingDrains}

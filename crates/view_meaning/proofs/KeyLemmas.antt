@@ -20,13 +20,16 @@ use Rattle.table_desc.specs.Descriptions.{DescOf}
 use Rattle.table_desc.specs.Tables.{TableOf}
 use Rattle.table_desc.specs.KindValues.{KindOf, Raw, Filter, Group, Join}
 use Rattle.table_desc.specs.Sources.{width_of, table_width, kind_sources}
-use Rattle.table_desc.specs.Time.{END}
-use Rattle.view_meaning.specs.Partitions.{start_of, end_of, is_met, parts_met, all_parts, is_part}
-use Rattle.view_meaning.specs.Partitions.{tick_at_least, keys_read, keys_below, sources_of}
+use Rattle.partition_map.specs.Time.{END}
+use Rattle.partition_map.specs.Partitions.{start_of, end_of, is_met, parts_met, all_parts}
+use Rattle.view_meaning.specs.Partitions.{is_part}
+use Rattle.partition_map.specs.Partitions.{tick_at_least}
+use Rattle.view_meaning.specs.Partitions.{keys_read, keys_below, sources_of}
 use Rattle.view_meaning.specs.Versions.{is_raw, is_raw_kind}
 use Rattle.view_meaning.specs.Drains.{view_keys, all_view_keys}
 use Rattle.view_meaning.proofs.ListLemmas.{list_any-agree, list_any-map, list_any-flat_map}
-use Rattle.view_meaning.proofs.ListLemmas.{All-flat_map, All-range_with_len}
+use Rattle.partition_map.proofs.ListLemmas.{All-range_with_len}
+use Rattle.view_meaning.proofs.ListLemmas.{All-flat_map}
 use Rattle.view_meaning.proofs.ListLemmas.{list_any-range_with_len, AllPairs-append, AllPairs-map}
 use Rattle.view_meaning.proofs.ListLemmas.{AllPairs-range_with_len}
 use Rattle.view_meaning.proofs.AmongLemmas.{is_key, is_among, IsBefore}

@@ -10,22 +10,9 @@ use Rattle.std.proofs.lemmas.List.Folds.{Any-from_list_any, list_any_at, list_an
 use Rattle.std.proofs.lemmas.List.Kept.{Contains-dedup_nat, Contains-from_dedup}
 use Rattle.std.proofs.lemmas.Map.Views.{Contains-from_any, list_any-from_Contains}
 use Rattle.std.proofs.lemmas.Cmp.{nat_eq_equiv}
-use Rattle.view_meaning.specs.PartLists.{has}
+use Rattle.partition_map.specs.Partitions.{has}
 use Rattle.view_meaning.proofs.ListLemmas.{AllPairs-head, AllPairs-tail}
-use Rattle.view_meaning.proofs.BoolLemmas.{same-answer}
-
--- a filtered list has the numbers of the list that pass
-pub has-filter : (test : ℕ → Bool) (xs : List ℕ) (number : ℕ)
-    → has (filter test xs) number ≡ (test number && has xs number)
-has-filter test [] number = grind arith
-has-filter test (x ∷ xs) number = grind (arith, nat_tests, has-filter test xs number)
-
--- a run of numbers has those from its first up to its end
-pub has-range_with_len : (from many number : ℕ)
-    → has (range_with_len from many) number ≡ (nat_le from number && nat_lt number (from + many))
-has-range_with_len from zero number = grind (arith, nat_tests)
-has-range_with_len from (suc many) number =
-    grind (arith, nat_tests, has-range_with_len (from + 1) many number)
+use Rattle.partition_map.proofs.BoolLemmas.{same-answer}
 
 -- a number that a list has is one of its elements
 Contains-has : (xs : List ℕ) (number : ℕ) → has xs number ≡ true → Contains xs number

@@ -10,20 +10,23 @@ use Rattle.std.proofs.lemmas.Bool.{and_parts, and_from, ltb-true, lt-ltb, le-leb
 use Rattle.std.proofs.lemmas.List.Elements.{Contains-get_or}
 use Rattle.std.proofs.lemmas.List.Folds.{list_any-append}
 use Rattle.std.proofs.Math.Nat.{le-mul_of_pos_right}
-use Rattle.table_desc.specs.declared.time.Span.{Span}
+use Rattle.partition_map.proofs.NumberLemmas.{has-parts_met}
+use Rattle.partition_map.specs.declared.time.Span.{Span}
 use Rattle.table_desc.specs.declared.view.Src.{Src}
 use Rattle.table_desc.specs.Deliveries.{DeliveryOf}
 use Rattle.table_desc.specs.Descriptions.{DescOf}
 use Rattle.table_desc.specs.Sources.{table_width, IsAligned}
-use Rattle.table_desc.specs.Time.{END}
-use Rattle.view_meaning.specs.Partitions.{start_of, end_of, is_met, parts_met, source_parts}
+use Rattle.partition_map.specs.Time.{END}
+use Rattle.partition_map.specs.Partitions.{start_of, end_of, is_met, parts_met, source_parts}
 use Rattle.view_meaning.specs.Partitions.{keys_read}
 use Rattle.view_meaning.specs.Reached.{brings}
-use Rattle.view_meaning.specs.PartLists.{AreBrought, AreInTime, Gains, has, is_listed, key_of}
+use Rattle.partition_map.specs.Partitions.{has}
+use Rattle.view_meaning.specs.PartLists.{AreBrought, AreInTime, Gains, is_listed, key_of}
 use Rattle.view_meaning.specs.PartLists.{lists_of, parts_at}
 use Rattle.view_meaning.proofs.ListLemmas.{list_any-agree, list_any-map}
-use Rattle.view_meaning.proofs.BoolLemmas.{same-answer}
-use Rattle.view_meaning.proofs.NumberLemmas.{has-Contains, has-filter, has-range_with_len}
+use Rattle.partition_map.proofs.BoolLemmas.{same-answer}
+use Rattle.partition_map.proofs.NumberLemmas.{has-filter, has-range_with_len}
+use Rattle.view_meaning.proofs.NumberLemmas.{has-Contains}
 use Rattle.view_meaning.proofs.NumberLemmas.{list_any-has}
 use Rattle.view_meaning.proofs.PartitionLemmas.{is_met-div}
 
@@ -48,31 +51,6 @@ AreBrought-at desc deliveries brought table parts within read exact part =
     ap (λ (parts : List ℕ). has parts part)
     (sym (parts_at-lists_of brought table parts within read))
     ∙ exact table part
-
--- a number below a bound is one of the run below it
-has-run : (bound number : ℕ) → number < bound → has (range_with_len 0 bound) number ≡ true
-has-run bound number below =
-    has-range_with_len 0 bound number
-    ∙ and_from (nat_le 0 number) (nat_lt number (0 + bound)) (le-leb 0 number (omega arith))
-    (lt-ltb number (0 + bound) (omega arith))
-
--- a partition is among those that share a tick with a span exactly if it does
-pub has-parts_met : (width from to part : ℕ)
-    → has (parts_met width from to) part ≡ is_met width from to part
-has-parts_met width from to part =
-    let met = is_met width from to part in
-    let run = has (range_with_len 0 to) part in
-    has-filter (is_met width from to) (range_with_len 0 to) part
-    ∙ same-answer (met && run) met
-    (λ both. (and_parts met run both).0)
-    (λ yes. and_from met run yes (has-run to part (below_end yes)))
-  where
-    below_end : is_met width from to part ≡ true → part < to
-    below_end met =
-        let shared = ltb-true (max (start_of width part) from) (min (end_of width part) to) met in
-        let some : 0 < width = omega arith in
-        let at_most : part ≤ start_of width part = le-mul_of_pos_right part some in
-        omega arith
 
 -- of a source that is aligned a partition reads those that share a tick with it
 pub source_parts-aligned : (width source_width part : ℕ) (span : Span)

@@ -7,24 +7,12 @@ use Rattle.std.proofs.Math.Nat.{div-eq_of_lt-le, mul-le-mul_right, div-mul-le_se
 use Rattle.std.proofs.Math.Nat.{div-le_self}
 use Rattle.std.proofs.lemmas.Bool.{lt-ltb, le-ltb, ltb-true, eq-eqb, eqb-true}
 use Rattle.std.proofs.lemmas.Nat.{div-add-mod', le-div}
-use Rattle.table_desc.specs.Time.{IsWidth}
-use Rattle.table_desc.specs.Time.{END}
-use Rattle.view_meaning.specs.Partitions.{start_of, end_of, is_met, parts_met}
-use Rattle.view_meaning.proofs.ListLemmas.{filter-none, filter-range_with_len}
-use Rattle.view_meaning.proofs.BoolLemmas.{same-answer}
-
--- an empty span shares a tick with no partition
-is_met-empty : (width from to part : ℕ) → to ≤ from → is_met width from to part ≡ false
-is_met-empty width from to part empty =
-    le-ltb (max (start_of width part) from) (min (end_of width part) to) (omega arith)
-
--- no partition shares a tick with an empty span
-pub parts_met-empty : (width from to : ℕ) → to ≤ from
-    → parts_met width from to ≡ range_with_len 0 0
-parts_met-empty width from to empty =
-    filter-none (is_met width from to) (range_with_len 0 to)
-    (λ index default _.
-    is_met-empty width from to (get_or (range_with_len 0 to) index default) empty)
+use Rattle.partition_map.proofs.PartitionLemmas.{start_of-next}
+use Rattle.partition_map.specs.Time.{IsWidth}
+use Rattle.partition_map.specs.Time.{END}
+use Rattle.partition_map.specs.Partitions.{start_of, end_of, is_met, parts_met}
+use Rattle.partition_map.proofs.ListLemmas.{filter-none, filter-range_with_len}
+use Rattle.partition_map.proofs.BoolLemmas.{same-answer}
 
 -- a partition with no ticks shares none with a span
 pub is_met-no_width : (from to part : ℕ) → is_met 0 from to part ≡ false
@@ -36,54 +24,6 @@ pub parts_met-no_width : (from to : ℕ) → parts_met 0 from to ≡ range_with_
 parts_met-no_width from to =
     filter-none (is_met 0 from to) (range_with_len 0 to)
     (λ index default _. is_met-no_width from to (get_or (range_with_len 0 to) index default))
-
--- a partition before that of the first tick shares none with the span
-is_met-before : (width from to part : ℕ) → part < from / width → is_met width from to part ≡ false
-is_met-before width from to part before =
-    let ends : (part + 1) * width ≤ from / width * width = mul-le-mul_right width (omega arith) in
-    let at_most : from / width * width ≤ from = div-mul-le_self from width in
-    le-ltb (max (start_of width part) from) (min (end_of width part) to) (omega arith)
-
--- a partition from that of the first tick up to that of the last shares one with the span
-is_met-within : (width from to part : ℕ) → 1 ≤ width → from < to → to ≤ END
-    → from / width ≤ part → part ≤ (to - 1) / width
-    → is_met width from to part ≡ true
-is_met-within width from to part some in_order in_time at_least at_most =
-    let starts : part * width ≤ (to - 1) / width * width = mul-le-mul_right width at_most in
-    let last : (to - 1) / width * width ≤ to - 1 = div-mul-le_self (to - 1) width in
-    let ends : from / width * width ≤ part * width = mul-le-mul_right width at_least in
-    let first : from < from / width * width + width = lt-div-mul-add (omega arith) in
-    lt-ltb (max (start_of width part) from) (min (end_of width part) to) (omega arith)
-
--- a partition after that of the last tick shares none with the span
-is_met-after : (width from to part : ℕ) → 1 ≤ width → (to - 1) / width < part
-    → is_met width from to part ≡ false
-is_met-after width from to part some behind =
-    let starts : ((to - 1) / width + 1) * width ≤ part * width =
-    mul-le-mul_right width (omega arith) in
-    let last : to - 1 < (to - 1) / width * width + width = lt-div-mul-add (omega arith) in
-    le-ltb (max (start_of width part) from) (min (end_of width part) to) (omega arith)
-
--- from the partition of the first tick up to that of the last, they share one with the span
-pub parts_met-run : (width from to : ℕ) → IsWidth width → from < to → to ≤ END
-    → parts_met width from to ≡ range_with_len (from / width) ((to - 1) / width - from / width + 1)
-parts_met-run width from to is_width in_order in_time =
-    let at_most : from / width * width ≤ from = div-mul-le_self from width in
-    let ordered : from / width ≤ (to - 1) / width =
-    le-div (from / width) (to - 1) width (omega (arith, is_width.some)) (omega arith) in
-    let within : (to - 1) / width ≤ to - 1 = div-le_self (to - 1) width in
-    filter-range_with_len (is_met width from to) (from / width) ((to - 1) / width + 1) to
-    (omega arith) (omega arith)
-    (λ part below. is_met-before width from to part below)
-    (λ part at_least below.
-    is_met-within width from to part is_width.some in_order in_time at_least (omega arith))
-    (λ part at_least. is_met-after width from to part is_width.some (omega arith))
-    ∙ ap (λ (many : ℕ). range_with_len (from / width) many) (omega arith)
-
--- the next partition begins a width later
-pub start_of-next : (width part : ℕ) → start_of width (part + 1) ≡ start_of width part + width
-start_of-next width part =
-    add-mul part 1 width ∙ ap (λ (one : ℕ). part * width + one) (one-mul width)
 
 -- a partition of a width that is cut nowhere begins with the wider partition that it shares a tick
 -- with, or after it

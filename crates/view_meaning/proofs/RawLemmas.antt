@@ -20,7 +20,8 @@ use Rattle.view_meaning.specs.RawValues.{lies_in, raw_value}
 use Rattle.view_meaning.specs.TableRows.{lies_in_table, cells_where}
 use Rattle.view_meaning.specs.SetAside.{kept, kept_rows}
 use Rattle.view_meaning.specs.Versions.{touches, loads_after, raw_version, is_raw, version}
-use Rattle.view_meaning.proofs.ListLemmas.{list_any-agree, filter-none}
+use Rattle.partition_map.proofs.ListLemmas.{filter-none}
+use Rattle.view_meaning.proofs.ListLemmas.{list_any-agree}
 use Rattle.view_meaning.proofs.SetAsideLemmas.{kept-push, kept_rows-all}
 
 -- the cells of two lists of rows are those of the first, then those of the second

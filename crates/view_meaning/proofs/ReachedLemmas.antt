@@ -16,15 +16,17 @@ use Rattle.table_desc.specs.Descriptions.{DescOf}
 use Rattle.table_desc.specs.Tables.{TableOf}
 use Rattle.table_desc.specs.Sources.{HasAlignedSources, HasEarlierSources, kind_sources}
 use Rattle.table_desc.specs.Sources.{table_width, width_of, IsAligned}
-use Rattle.table_desc.specs.Time.{END}
-use Rattle.view_meaning.specs.Partitions.{end_of, is_covered, is_met, is_part, keys_below}
-use Rattle.view_meaning.specs.Partitions.{keys_read, sources_of, start_of}
+use Rattle.partition_map.specs.Time.{END}
+use Rattle.partition_map.specs.Partitions.{end_of, is_covered, is_met}
+use Rattle.view_meaning.specs.Partitions.{is_part, keys_below}
+use Rattle.partition_map.specs.Partitions.{start_of}
+use Rattle.view_meaning.specs.Partitions.{keys_read, sources_of}
 use Rattle.view_meaning.specs.Journal.{row_tick}
 use Rattle.view_meaning.specs.RawValues.{covers_tick, holds_cells, lies_in}
 use Rattle.view_meaning.specs.Reached.{brings, is_reached, is_reached_within}
 use Rattle.view_meaning.specs.PartLists.{key_of}
 use Rattle.view_meaning.proofs.ListLemmas.{flat_map-agree, flat_map-none, list_any-agree}
-use Rattle.view_meaning.proofs.PartitionLemmas.{parts_met-empty, start_of-next}
+use Rattle.partition_map.proofs.PartitionLemmas.{parts_met-empty, start_of-next}
 use Rattle.view_meaning.proofs.PartListLemmas.{source_parts-aligned}
 use Rattle.view_meaning.proofs.SourceLemmas.{sources_of-earlier, within-enough}
 

@@ -18,20 +18,25 @@ use Rattle.table_desc.specs.Deliveries.{DeliveryOf}
 use Rattle.table_desc.specs.Descriptions.{DescOf}
 use Rattle.table_desc.specs.Tables.{TableOf}
 use Rattle.table_desc.specs.Sources.{HasAlignedSources, HasEarlierSources, table_width, width_of}
-use Rattle.table_desc.specs.Time.{END}
-use Rattle.view_meaning.specs.Partitions.{all_parts, end_of, is_met, keys_below, sources_of}
-use Rattle.view_meaning.specs.Partitions.{start_of}
+use Rattle.partition_map.specs.Time.{END}
+use Rattle.partition_map.specs.Partitions.{all_parts, end_of, is_met}
+use Rattle.view_meaning.specs.Partitions.{keys_below, sources_of}
+use Rattle.partition_map.specs.Partitions.{start_of}
 use Rattle.view_meaning.specs.Versions.{is_raw_kind}
 use Rattle.view_meaning.specs.Drains.{view_keys}
 use Rattle.view_meaning.specs.Reached.{brings, is_reached, reached}
-use Rattle.view_meaning.specs.PartLists.{AllReached, AreBrought, AreInTime, AreUpTo, Gains, has}
+use Rattle.partition_map.specs.Partitions.{has}
+use Rattle.view_meaning.specs.PartLists.{AllReached, AreBrought, AreInTime, AreUpTo, Gains}
 use Rattle.view_meaning.specs.PartLists.{is_listed, key_of, keys_of_view, lists_of, reached_of}
-use Rattle.view_meaning.proofs.ListLemmas.{list_any-agree, range_with_len-append, filter-map}
+use Rattle.partition_map.proofs.ListLemmas.{range_with_len-append}
+use Rattle.view_meaning.proofs.ListLemmas.{list_any-agree, filter-map}
 use Rattle.view_meaning.proofs.ListLemmas.{filter-flat_map}
-use Rattle.view_meaning.proofs.BoolLemmas.{same-answer}
+use Rattle.partition_map.proofs.BoolLemmas.{same-answer}
 use Rattle.view_meaning.proofs.KeyLemmas.{AllPairs-all_parts}
-use Rattle.view_meaning.proofs.NumberLemmas.{has-filter, rising-same}
-use Rattle.view_meaning.proofs.PartListLemmas.{AreBrought-at, has-parts_met, length-lists_of}
+use Rattle.partition_map.proofs.NumberLemmas.{has-filter}
+use Rattle.view_meaning.proofs.NumberLemmas.{rising-same}
+use Rattle.partition_map.proofs.NumberLemmas.{has-parts_met}
+use Rattle.view_meaning.proofs.PartListLemmas.{AreBrought-at, length-lists_of}
 use Rattle.view_meaning.proofs.ReachedLemmas.{is_part-is_reached, is_reached-step}
 use Rattle.view_meaning.proofs.SourceLemmas.{sources_of-earlier}
 

@@ -6,7 +6,7 @@ use Rattle.table_desc.specs.declared.delivery.DRow.{DRow}
 use Rattle.table_desc.specs.Deliveries.{DeliveryOf}
 use Rattle.table_desc.specs.Descriptions.{DescOf}
 use Rattle.view_meaning.specs.SetAside.{is_late, kept_rows, aside_rows, kept_after, kept}
-use Rattle.view_meaning.proofs.ListLemmas.{filter-none, filter-all}
+use Rattle.partition_map.proofs.ListLemmas.{filter-none, filter-all}
 
 -- a delivery keeps all its rows
 pub kept_rows-all : (desc : DescOf) (before : List DeliveryOf) (delivery : DeliveryOf)

@@ -8,7 +8,8 @@ use Rattle.table_desc.specs.declared.view.Src.{Src}
 use Rattle.table_desc.specs.Descriptions.{DescOf}
 use Rattle.table_desc.specs.Tables.{TableOf}
 use Rattle.table_desc.specs.Sources.{HasEarlierSources, kind_sources, table_width}
-use Rattle.view_meaning.specs.Partitions.{keys_below, keys_read, sources_of, source_parts}
+use Rattle.partition_map.specs.Partitions.{source_parts}
+use Rattle.view_meaning.specs.Partitions.{keys_below, keys_read, sources_of}
 use Rattle.view_meaning.proofs.ListLemmas.{All-flat_map}
 
 -- the partitions read of an earlier table are earlier

@@ -17,7 +17,7 @@ use Rattle.table_desc.specs.Descriptions.{DescOf}
 use Rattle.table_desc.specs.Tables.{TableOf}
 use Rattle.table_desc.specs.KindValues.{Filter}
 use Rattle.table_desc.specs.Sources.{table_width}
-use Rattle.view_meaning.specs.Partitions.{source_parts}
+use Rattle.partition_map.specs.Partitions.{source_parts}
 use Rattle.view_meaning.specs.RawValues.{raw_value}
 use Rattle.view_meaning.specs.Operations.{cut_to, filtered, meets}
 use Rattle.view_meaning.specs.Versions.{is_raw_kind}

@@ -8,7 +8,8 @@ use Rattle.table_desc.specs.Tables.{TableOf}
 use Rattle.view_meaning.specs.declared.journal.Entry.{Entry}
 use Rattle.view_meaning.specs.declared.journal.Entry.TheVariants as entry
 use Rattle.table_desc.specs.Sources.{HasEarlierSources}
-use Rattle.view_meaning.specs.Partitions.{all_parts, is_part}
+use Rattle.partition_map.specs.Partitions.{all_parts}
+use Rattle.view_meaning.specs.Partitions.{is_part}
 use Rattle.view_meaning.specs.Journal.{FitsJournal}
 use Rattle.view_meaning.specs.Versions.{is_raw_kind}
 use Rattle.view_meaning.specs.Staleness.{is_settled}

@@ -14,8 +14,8 @@ use Rattle.table_desc.specs.Tables.{TableOf}
 use Rattle.table_desc.specs.KindValues.{KindOf, Raw, Filter, Group, Join}
 use Rattle.view_meaning.specs.declared.journal.Entry.{Entry}
 use Rattle.view_meaning.specs.declared.journal.Entry.TheVariants as entry
-use Rattle.table_desc.specs.Time.{END}
-use Rattle.view_meaning.specs.Partitions.{start_of}
+use Rattle.partition_map.specs.Time.{END}
+use Rattle.partition_map.specs.Partitions.{start_of}
 
 -- the delivery of a load
 abbrev pub delivery_of : Entry → Option DeliveryOf

@@ -10,8 +10,8 @@ use Rattle.table_desc.specs.Deliveries.{DeliveryOf}
 use Rattle.table_desc.specs.Descriptions.{DescOf}
 use Rattle.table_desc.specs.KindValues.{KindOf}
 use Rattle.table_desc.specs.Sources.{table_width}
-use Rattle.table_desc.specs.Time.{END}
-use Rattle.view_meaning.specs.Partitions.{start_of}
+use Rattle.partition_map.specs.Time.{END}
+use Rattle.partition_map.specs.Partitions.{start_of, has}
 use Rattle.view_meaning.specs.RawValues.{lies_in}
 use Rattle.view_meaning.specs.Versions.{is_raw_kind}
 use Rattle.view_meaning.specs.Drains.{view_keys}
@@ -20,10 +20,6 @@ use Rattle.view_meaning.specs.Reached.{brings, is_reached}
 -- the partition of a table with a number
 abbrev pub key_of : (table part : ℕ) → Key
 key_of table part = record { table = table; part = part }
-
--- whether a number is one of these
-abbrev pub has : List ℕ → ℕ → Bool
-has parts part = list_any (nat_eq part) parts
 
 -- vectors as lists
 abbrev pub lists_of : List (Vec ℕ Global) → List (List ℕ)

@@ -7,7 +7,7 @@ use Rattle.table_desc.specs.declared.delivery.DRow.{DRow}
 use Rattle.table_desc.specs.Deliveries.{DeliveryOf}
 use Rattle.table_desc.specs.Descriptions.{DescOf}
 use Rattle.table_desc.specs.Tables.{TableOf}
-use Rattle.view_meaning.specs.Partitions.{is_covered}
+use Rattle.partition_map.specs.Partitions.{is_covered}
 use Rattle.view_meaning.specs.Journal.{row_tick}
 use Rattle.view_meaning.specs.SetAside.{kept}
 

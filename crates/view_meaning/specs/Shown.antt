@@ -8,7 +8,7 @@ use Rattle.view_meaning.specs.declared.request.Item.{Item}
 use Rattle.view_meaning.specs.declared.request.PinItem.{PinItem}
 use Rattle.view_meaning.specs.declared.request.Mark.TheVariants as mark
 use Rattle.table_desc.specs.Sources.{HasEarlierSources, table_width}
-use Rattle.view_meaning.specs.Partitions.{parts_met}
+use Rattle.partition_map.specs.Partitions.{parts_met}
 use Rattle.view_meaning.specs.Journal.{accepted}
 use Rattle.view_meaning.specs.Values.{value}
 use Rattle.view_meaning.specs.Versions.{is_raw, last_place, version}

@@ -2,8 +2,8 @@
 
 ghost use Rattle.std.specs.Prelude.{pos, ◌≡◌, ◌+◌, ◌*◌, ◌^◌, ◌≤◌, ◌+ℤ◌};
 ghost use Rattle.std.specs.List.{range_with_len};
-ghost use Rattle.table_desc.specs.Time.{END};
-ghost use Rattle.view_meaning.specs.Partitions.{parts_met, source_parts, tick_at_least};
+ghost use Rattle.partition_map.specs.Time.{END};
+ghost use Rattle.partition_map.specs.Partitions.{parts_met, source_parts, tick_at_least};
 
 use table_desc::{END, Span, Width};
 

@@ -3,8 +3,8 @@
 ghost use Rattle.std.specs.Prelude.{◌≡◌, ◌<◌, ◌≤◌, ◌&&◌, length, map, slice_get, IfOk, IfSome};
 ghost use Rattle.std.specs.Str.{bytes_eq};
 ghost use Rattle.table_desc.specs.Sources.{width_of};
-ghost use Rattle.table_desc.specs.Time.{END as the_end};
-ghost use Rattle.view_meaning.specs.Partitions.{parts_met};
+ghost use Rattle.partition_map.specs.Time.{END as the_end};
+ghost use Rattle.partition_map.specs.Partitions.{parts_met};
 ghost use Rattle.table_desc.specs.Words.{is_empty};
 ghost use Rattle.depot_cli.specs.Orders.{deliver_order, asked, head_of, item_of, item_read};
 ghost use Rattle.depot_cli.specs.Orders.{number_below, order_of, order_of_words, query_order};

@@ -1,5 +1,5 @@
 use Rattle.std.proofs.Common.{◌≡◌, ◌++◌, ◌/◌, map, take}
-use Rattle.view_meaning.specs.Partitions.{start_of}
+use Rattle.partition_map.specs.Partitions.{start_of}
 use Rattle.view_meaning.proofs.reached.push_wider.Given as goal
 
 -- the numbers are those from before, and those of the partitions so far

@@ -3,7 +3,7 @@ use Rattle.std.specs.Prelude.{List, ℕ, nat_eq}
 use Rattle.std.proofs.lemmas.List.Filters.{dedup_is}
 use Rattle.std.proofs.lemmas.List.Sorted.{list_any-IsPermutation}
 use Rattle.std.proofs.lemmas.Map.Keys.{IsStrictlyIncreasing-dedup}
-use Rattle.view_meaning.specs.PartLists.{has}
+use Rattle.partition_map.specs.Partitions.{has}
 use Rattle.view_meaning.proofs.NumberLemmas.{has-dedup}
 use Rattle.view_meaning.proofs.reached.sort_parts.Goals as goal
 
