@@ -1,7 +1,8 @@
 -- Lemmas on the rows of a body: cells and rows are read from the front, and `with_front` puts
 -- what was read before what the rest is.
 use Rattle.std.proofs.Common.{◌≡◌, ◌∙◌, ◌+◌, ◌<◌, ◌≤◌, ◌∷◌, ◌++◌, [], ℕ, zero, suc, List, Option}
-use Rattle.std.proofs.Common.{Some, None, drop, get_or, length, refl, sym, ap, true, false, arith}
+use Rattle.std.proofs.Common.{Some, None, Bool, drop, get_or, length, refl, sym, ap, true, false}
+use Rattle.std.proofs.Common.{arith}
 use Rattle.std.specs.Prelude.{option_map, slice_get}
 use Rattle.std.specs.Result.{result_ok}
 use Rattle.std.proofs.lemmas.List.{append-nil, drop_more}
@@ -15,8 +16,8 @@ use Rattle.table_desc.specs.declared.table.Column.{Column}
 use Rattle.table_desc.specs.declared.delivery.DRow.{DRow}
 use Rattle.table_desc.specs.Descriptions.{DescOf}
 use Rattle.table_desc.specs.Tables.{TableOf}
-use Rattle.feed_csv.specs.Bodies.{cells_of, find_raw_table, records_of, row_of, rows_from, rows_of}
-use Rattle.feed_csv.specs.Bodies.{table_cells}
+use Rattle.feed_csv.specs.Bodies.{cells_of, find_raw_table, has_header, records_of, row_of}
+use Rattle.feed_csv.specs.Bodies.{rows_from, rows_of, table_cells, without_header}
 use Rattle.table_desc.specs.Front.{with_first}
 use Rattle.table_desc.proofs.FrontLemmas.{with_first-none, with_front, with_front-push}
 use Rattle.table_desc.proofs.FrontLemmas.{with_front-empty}
@@ -126,58 +127,118 @@ pub row_of-named : (desc : DescOf) (feed number : ℕ) (fields : List (List ℕ)
 row_of-named desc feed number fields name table declared cells there named found read =
     rw (read, field_at-first fields name there, ← named, found) refl
 
+-- the rows that records are, numbered from here on, where record 0 is a header
+abbrev numbered_rows : DescOf → (feed number : ℕ) → List (List (List ℕ)) → Option (List DRow)
+numbered_rows desc feed zero records = rows_from desc feed 1 (drop 1 records)
+numbered_rows desc feed (suc before) records = rows_from desc feed (suc before) records
+
+-- the number of a body's first record: a header is record 0
+abbrev pub first_number : (header : Bool) → ℕ
+first_number true = 0
+first_number false = 1
+
+-- the first record is record 1 at most
+first_number-le : (header : Bool) → first_number header ≤ 1
+first_number-le true = omega arith
+first_number-le false = omega arith
+
+-- all records, numbered like this, are the rows of those after the header
+numbered_rows-start : (desc : DescOf) (feed : ℕ) (header : Bool) (records : List (List (List ℕ)))
+    → header ≡ has_header desc feed
+    → numbered_rows desc feed (first_number header) records
+    ≡ rows_from desc feed 1 (without_header desc feed records)
+numbered_rows-start desc feed true records same = rw (← same) refl
+numbered_rows-start desc feed false records same = rw (← same) refl
+
+-- no records are no rows
+numbered_rows-empty : (desc : DescOf) (feed number : ℕ) → numbered_rows desc feed number [] ≡ Some []
+numbered_rows-empty desc feed zero = refl
+numbered_rows-empty desc feed (suc before) = refl
+
+-- a record from 1 on is a row
+numbered_rows-step : (desc : DescOf) (feed number : ℕ) (fields : List (List ℕ))
+    (others : List (List (List ℕ)))
+    → 0 < number
+    → numbered_rows desc feed number (fields ∷ others)
+    ≡ with_first (row_of desc feed number fields) (numbered_rows desc feed (number + 1) others)
+numbered_rows-step desc feed zero fields others some = absurd (omega arith)
+numbered_rows-step desc feed (suc before) fields others some =
+    let next : suc before + 1 ≡ suc (suc before) = omega arith in
+    rw next refl
+
 -- the rows that were read, and those that the records to come are, are those of the body
 pub record ReadsRows {R : Type 0} (rem : R → Option (List ℕ)) (desc : DescOf) (feed : ℕ)
     (body : List ℕ) (reader : Reader R) (number : ℕ) (rows : List DRow) : Type 0 where
   pub rest : List (List (List ℕ))
   pub yields : Yields rem reader rest
   pub few : number + length rest ≤ length body + 1
-  pub whole : with_front rows (rows_from desc feed number rest) ≡ rows_of desc feed body
+  pub whole : with_front rows (numbered_rows desc feed number rest) ≡ rows_of desc feed body
 
 -- nothing was read at the start
 pub ReadsRows-start : {R : Type 0} (rem : R → Option (List ℕ)) (desc : DescOf) (feed : ℕ)
-    (body : List ℕ) (reader : Reader R)
-    → Yields rem reader (records_of body)
-    → ReadsRows rem desc feed body reader 1 []
-ReadsRows-start rem desc feed body reader yields =
+    (body : List ℕ) (reader : Reader R) (header : Bool)
+    → header ≡ has_header desc feed → Yields rem reader (records_of body)
+    → ReadsRows rem desc feed body reader (first_number header) []
+ReadsRows-start rem desc feed body reader header same yields =
     let short = records-le body in
+    let first = first_number-le header in
     record {
       rest = records_of body;
       yields = yields;
       few = omega arith;
-      whole = with_front-empty _;
+      whole = with_front-empty _ ∙ numbered_rows-start desc feed header (records_of body) same;
     }
+
+-- record 0 adds no row
+pub ReadsRows-skip : {R : Type 0} (rem : R → Option (List ℕ)) (desc : DescOf) (feed : ℕ)
+    (body : List ℕ)
+    (old new : Reader R) (number : ℕ) (rows : List DRow) (fields : List (List ℕ))
+    → number ≡ 0 → ReadsRows rem desc feed body old number rows
+    → ReadRecord rem old new true fields → took_first new ≡ true
+    → ReadsRows rem desc feed body new (number + 1) rows
+ReadsRows-skip rem desc feed body old new zero rows fields is_zero before read took =
+    let more = Yields-step rem old new fields before.rest before.yields read took in
+    let size = ap length more.first in
+    record {
+      rest = more.others;
+      yields = more.yields;
+      few = omega (arith, before.few);
+      whole = rw more.first at before.whole;
+    }
+ReadsRows-skip rem desc feed body old new (suc _) rows fields is_zero before read took =
+    absurd (omega arith)
 
 -- a record that is a row adds it
 pub ReadsRows-push : {R : Type 0} (rem : R → Option (List ℕ)) (desc : DescOf) (feed : ℕ)
     (body : List ℕ)
     (old new : Reader R) (number : ℕ) (rows : List DRow) (fields : List (List ℕ)) (row : DRow)
-    → ReadsRows rem desc feed body old number rows → ReadRecord rem old new true fields
-    → took_first new ≡ true
+    → 0 < number → ReadsRows rem desc feed body old number rows
+    → ReadRecord rem old new true fields → took_first new ≡ true
     → Some row ≡ row_of desc feed number fields
     → ReadsRows rem desc feed body new (number + 1) (rows ++ row ∷ [])
-ReadsRows-push rem desc feed body old new number rows fields row before read took is_row =
+ReadsRows-push rem desc feed body old new number rows fields row some before read took is_row =
     let more = Yields-step rem old new fields before.rest before.yields read took in
-    let few = before.few in
     let size = ap length more.first in
-    let step = rw (more.first, ← is_row) at before.whole in
+    let step = numbered_rows-step desc feed number fields more.others some in
     record {
       rest = more.others;
       yields = more.yields;
-      few = omega arith;
-      whole = sym (with_front-push rows row _) ∙ step;
+      few = omega (arith, before.few);
+      whole = sym (with_front-push rows row _)
+          ∙ rw (more.first, step, ← is_row) at before.whole;
     }
 
 -- a record that is no row makes the whole none
 pub ReadsRows-none : {R : Type 0} (rem : R → Option (List ℕ)) (desc : DescOf) (feed : ℕ)
     (body : List ℕ)
     (old new : Reader R) (number : ℕ) (rows : List DRow) (fields : List (List ℕ))
-    → ReadsRows rem desc feed body old number rows → ReadRecord rem old new true fields
-    → took_first new ≡ true
+    → 0 < number → ReadsRows rem desc feed body old number rows
+    → ReadRecord rem old new true fields → took_first new ≡ true
     → None ≡ row_of desc feed number fields → None ≡ rows_of desc feed body
-ReadsRows-none rem desc feed body old new number rows fields before read took no_row =
+ReadsRows-none rem desc feed body old new number rows fields some before read took no_row =
     let more = Yields-step rem old new fields before.rest before.yields read took in
-    rw (more.first, ← no_row) at before.whole
+    let step = numbered_rows-step desc feed number fields more.others some in
+    rw (more.first, step, ← no_row) at before.whole
 
 -- if no record is left the rows are the whole
 pub ReadsRows-empty : {R : Type 0} (rem : R → Option (List ℕ)) (desc : DescOf) (feed : ℕ)
@@ -187,4 +248,5 @@ pub ReadsRows-empty : {R : Type 0} (rem : R → Option (List ℕ)) (desc : DescO
     → Some rows ≡ rows_of desc feed body
 ReadsRows-empty rem desc feed body old new number rows fields before read =
     let none = Yields-empty rem old new fields before.rest before.yields read in
-    ap Some (sym (append-nil rows)) ∙ rw none at before.whole
+    ap Some (sym (append-nil rows))
+    ∙ rw (none, numbered_rows-empty desc feed number) at before.whole

@@ -21,7 +21,7 @@ use Rattle.table_desc.proofs.FrontLemmas.{with_first-some}
 use Rattle.table_desc.proofs.ListLemmas.{option_map-some}
 use Rattle.view_meaning.specs.Journal.{FitsRow, IsRawOf, IsRowOf}
 use Rattle.feed_csv.specs.Bodies.{cells_of, find_raw_table, is_in_time, is_raw_of, records_of}
-use Rattle.feed_csv.specs.Bodies.{row_of, rows_from, table_cells, timed}
+use Rattle.feed_csv.specs.Bodies.{row_of, rows_from, table_cells, timed, without_header}
 use Rattle.feed_csv.specs.Rows.{RowsFit}
 use Rattle.feed_csv.proofs.ListLemmas.{AllAdjacentBelow-cons, result_ok-some}
 
@@ -154,5 +154,6 @@ AreRowsFrom-rows_from desc feed number (fields ∷ others) rows read =
 -- the rows of a body fit
 pub rows_fit : RowsFit
 rows_fit desc feed body rows read =
-    let fit = AreRowsFrom-rows_from desc feed 1 (records_of body) rows read in
+    let fit =
+    AreRowsFrom-rows_from desc feed 1 (without_header desc feed (records_of body)) rows read in
     record { fit = fit.fit; from_one = fit.from; rising = fit.rising }

@@ -1,6 +1,6 @@
 -- The rows of a delivery's body: one for each record of the CSV text.
 use Rattle.std.specs.Prelude.{ℕ, ◌≡◌, ◌+◌, List, [], ◌∷◌, Option, Some, None, Bool, false, ◌&&◌}
-use Rattle.std.specs.Prelude.{nat_eq, nat_lt, if◌then◌else◌, slice_get, option_and_then}
+use Rattle.std.specs.Prelude.{drop, nat_eq, nat_lt, if◌then◌else◌, slice_get, option_and_then}
 use Rattle.std.specs.Prelude.{option_map, position}
 use Rattle.std.specs.Result.{result_ok}
 use Rattle.std.specs.Str.{bytes_eq}
@@ -12,6 +12,7 @@ use Rattle.csv.specs.declared.reader.Trim.TheVariants as trim
 use Rattle.depot_cell.specs.declared.cell.Cell.{Cell}
 use Rattle.depot_cell.specs.Reading.{cell_of}
 use Rattle.table_desc.specs.declared.table.Column.{Column}
+use Rattle.table_desc.specs.declared.table.Feed.{Feed}
 use Rattle.table_desc.specs.declared.delivery.DRow.{DRow}
 use Rattle.table_desc.specs.Descriptions.{DescOf}
 use Rattle.table_desc.specs.Tables.{TableOf}
@@ -71,12 +72,12 @@ rows_from desc feed number [] = Some []
 rows_from desc feed number (fields ∷ others) =
     with_first (row_of desc feed number fields) (rows_from desc feed (number + 1) others)
 
--- the records of a body, by the CSV reader with its default setup
+-- the records of a body, by the CSV reader with its default setup: a header is one of them
 abbrev pub records_of : List ℕ → List (List (List ℕ))
 records_of body = records default_config (strip_bom body)
 
 -- the reader stands at the start of a body, with the default setup of CSV readers except that it
--- reads no header
+-- takes no header by itself
 pub record BeginsBody {R : Type 0} (rem : R → Option (List ℕ)) (body : List ℕ)
     (reader : Reader R) : Type 0 where
   pub plain : reader_trim reader ≡ trim.None
@@ -85,6 +86,19 @@ pub record BeginsBody {R : Type 0} (rem : R → Option (List ℕ)) (body : List 
   pub state : reader_state reader ≡ st.StartRecord
   pub source : source_of rem reader ≡ Some (strip_bom body)
 
--- the rows of a body
+-- whether there is a feed, and it is declared with a header
+abbrev pub is_headed : Option Feed → Bool
+is_headed None = false
+is_headed (Some feed) = feed.header
+
+-- whether the first record of this feed's bodies is a header
+abbrev pub has_header : DescOf → (feed : ℕ) → Bool
+has_header desc feed = is_headed (slice_get desc.feeds feed)
+
+-- the records after the header, if the feed has one
+abbrev pub without_header : DescOf → (feed : ℕ) → List (List (List ℕ)) → List (List (List ℕ))
+without_header desc feed records = if has_header desc feed then drop 1 records else records
+
+-- the rows of a body: its records without the header, numbered from 1
 abbrev pub rows_of : DescOf → (feed : ℕ) → List ℕ → Option (List DRow)
-rows_of desc feed body = rows_from desc feed 1 (records_of body)
+rows_of desc feed body = rows_from desc feed 1 (without_header desc feed (records_of body))

@@ -1,7 +1,8 @@
 //! The rows of a delivery's body.
 //!
-//! A body is CSV text without a header. The first field of a record names a raw table of the
-//! delivery's feed, the others are the row's cells. Records are numbered from 1.
+//! A body is CSV text. If its feed is declared with a header, the first record is skipped, whatever
+//! it holds. The first field of each other record names a raw table of the delivery's feed, the
+//! others are the row's cells. These records are numbered from 1.
 
 ghost use Rattle.std.specs.Prelude.{◌≡◌, ◌<◌, ◌≤◌, ◌&&◌, IfOk, IfSome, Some, drop, length};
 ghost use Rattle.std.specs.Prelude.{option_map, position};
@@ -13,15 +14,15 @@ ghost use Rattle.table_desc.specs.Kinds.{kind_of};
 ghost use Rattle.view_meaning.specs.Journal.{row_tick, tick_of};
 ghost use Rattle.feed_csv.specs.Rows.{RowsFit};
 ghost use Rattle.feed_csv.specs.Bodies.{BeginsBody, cells_of, is_in_time, is_raw_of};
-ghost use Rattle.feed_csv.specs.Bodies.{find_raw_table, row_of, rows_of, table_cells};
+ghost use Rattle.feed_csv.specs.Bodies.{find_raw_table, has_header, row_of, rows_of, table_cells};
 
 use csv::{ByteRecord, Reader, ReaderBuilder};
 use depot_cell::{Cell, Memory, Row};
 use std::alloc::Global;
 use table_desc::{Column, DRow, END, Kind, ServedDesc, Table, field_cell, is_word};
 
-/// The rows of a body of up to 16,777,216 bytes, or `None` if some record is no row. The
-/// vector keeps no spare room.
+/// The rows of a body of up to 16,777,216 bytes, or `None` if some record is no row. A header may
+/// hold anything. The vector keeps no spare room.
 pub fn read_rows(
     alloc: Global,
     served: &ServedDesc,
@@ -61,7 +62,10 @@ fn read_records(
 {
     let mut fields = ByteRecord::new(alloc);
     let mut rows = Vec::new(alloc);
-    for number in 1..u32::MAX {
+    // A header is record 0. It is read by the call that reads the rows: that is the only one, so
+    // the compiler writes it into the loop.
+    let first = if has_header(served, feed) { 0 } else { 1 };
+    for number in first..u32::MAX {
         match reader.read_byte_record(&mut fields) {
             Ok(true) => {}
             Ok(false) => {
@@ -69,6 +73,9 @@ fn read_records(
                 return Ok(Some(rows));
             }
             Err(_) => return Err(Memory),
+        }
+        if number == 0 {
+            continue;
         }
         match read_row(alloc, served, feed, number, &fields)? {
             Some(row) => {
@@ -78,6 +85,17 @@ fn read_records(
         }
     }
     unreachable!()
+}
+
+/// Whether the first record of this feed's bodies is a header. A number that names no feed has
+/// none.
+fn has_header(served: &ServedDesc, feed: u16) -> bool
+    ensures exact { result ≡ has_header served.now.desc feed }
+{
+    match served.desc.feeds.get(usize::from(feed)) {
+        Some(feed) => feed.header,
+        None => false,
+    }
 }
 
 /// The row that the record with this number is, if it is one.

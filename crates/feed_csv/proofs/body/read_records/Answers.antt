@@ -1,16 +1,24 @@
-use Rattle.std.proofs.Common.{◌≡◌, ◌∙◌, ◌++◌, ◌∷◌, [], Some, ap, arith}
+use Rattle.std.proofs.Common.{◌≡◌, ◌∙◌, ◌++◌, ◌∷◌, [], Some, ap, true, false, arith}
 use Rattle.std.proofs.lemmas.Grind.{common_steps}
 use Rattle.csv.specs.Records.{fields_of}
 use Rattle.feed_csv.proofs.CsvRecords.{Yields-start}
 use Rattle.feed_csv.proofs.BodyLemmas.{ReadsRows-none, ReadsRows-empty, ReadsRows-push}
-use Rattle.feed_csv.proofs.BodyLemmas.{ReadsRows-start}
+use Rattle.feed_csv.proofs.BodyLemmas.{ReadsRows-skip, ReadsRows-start}
 use Rattle.feed_csv.proofs.body.read_records.Goals as goal
+use Rattle.feed_csv.proofs.body.read_records.Goals.{then-has_header, else-has_header}
 
 pub loop-number-init : goal.loop-number-init
 loop-number-init c =
     let start = c.requires.start in
-    rw c.new-rows.ensures.items (ReadsRows-start _ _ _ _ _
-    (Yields-start _ c.args.reader _ start.plain start.ready start.config start.state start.source))
+    let yields = Yields-start _ c.args.reader _ start.plain start.ready start.config start.state
+    start.source in
+    rw c.new-rows.ensures.items
+    (elim c.if-has_header.branch [
+      | then-has_header w ↦ rw w.first-is (ReadsRows-start _ _ _ _ _ true
+          (rw w.if-has_header.true at c.has_header.ensures.exact) yields)
+      | else-has_header w ↦ rw w.first-is (ReadsRows-start _ _ _ _ _ false
+          (rw w.if-has_header.false at c.has_header.ensures.exact) yields)
+    ])
 
 pub returns-in-Ok-false : goal.returns-in-Ok-false
 returns-in-Ok-false c =
@@ -30,10 +38,19 @@ returns-in-None c =
     at (c.in-Ok-true.ensures.reads before.yields.plain before.yields.ready) in
     record {
       exact = ReadsRows-none _ _ _ _ c.loop-number.reader c.read_byte_record.new.self _ _
-          (fields_of c.read_byte_record.new.row) before read
+          (fields_of c.read_byte_record.new.row) (omega arith) before read
           (c.in-Ok-true.ensures.ready before.yields.plain)
           (rw c.in-None.is at c.in_ok-row.ensures.exact);
     }
+
+pub loop-number-preserved-then-number-eq0 : goal.loop-number-preserved-then-number-eq0
+loop-number-preserved-then-number-eq0 c =
+    let before = c.loop-number.invariant in
+    let read = rw c.in-Ok-true.field-0-test
+    at (c.in-Ok-true.ensures.reads before.yields.plain before.yields.ready) in
+    ReadsRows-skip _ _ _ _ c.loop-number.reader c.read_byte_record.new.self _ _
+    (fields_of c.read_byte_record.new.row) c.if-number-eq0.true before read
+    (c.in-Ok-true.ensures.ready before.yields.plain)
 
 pub loop-number-preserved : goal.loop-number-preserved
 loop-number-preserved c =
@@ -43,6 +60,6 @@ loop-number-preserved c =
     let pushed : c.push.new.self.items ≡ c.loop-number.rows.items ++ c.in-Some.row ∷ [] =
     grind (arith, common_steps) in
     rw pushed (ReadsRows-push _ _ _ _ c.loop-number.reader c.read_byte_record.new.self _ _
-    (fields_of c.read_byte_record.new.row) c.in-Some.row before read
+    (fields_of c.read_byte_record.new.row) c.in-Some.row (omega arith) before read
     (c.in-Ok-true.ensures.ready before.yields.plain)
     (rw c.in-Some.is at c.in_ok-row.ensures.exact))
