@@ -1,10 +1,11 @@
 -- Which cells there can be, their types, and how two of them compare.
-use Rattle.std.specs.Prelude.{Bool, FitsSigned}
+use Rattle.std.specs.Prelude.{Bool, List, FitsSigned, false, nat_eq}
 use Rattle.std.specs.Int.{w64}
 use Rattle.std.specs.declared.cmp.Ordering.{Ordering}
 use Rattle.std.specs.declared.cmp.Ordering.TheVariants.{Less, Greater}
-use Rattle.std.specs.Ordering.{int_cmp, nat_cmp, is_eq, is_ne, is_lt, is_le, is_gt, is_ge}
-use Rattle.std.specs.Cmp.Lexicographic.{slice_cmp}
+use Rattle.std.specs.Ordering.{int_cmp, int_eq, nat_cmp}
+use Rattle.std.specs.Ordering.{is_eq, is_ne, is_lt, is_le, is_gt, is_ge}
+use Rattle.std.specs.Cmp.Lexicographic.{pointwise, slice_cmp}
 use Rattle.depot_cell.specs.declared.cell.Cell.{Cell}
 use Rattle.depot_cell.specs.declared.cell.Cell.TheVariants.{Int, Text}
 use Rattle.depot_cell.specs.declared.cell.Ty.{Ty}
@@ -22,6 +23,17 @@ ty_of (Text bytes) = ty.Text
 abbrev pub IsCell : Cell → Type 0
 IsCell (Int number) = FitsSigned w64 number
 IsCell (Text bytes) = IsShortText bytes
+
+-- whether two cells are the same: two ints of one value, or two texts of the same bytes
+abbrev pub same_cell : Cell → Cell → Bool
+same_cell (Int left) (Int right) = int_eq left right
+same_cell (Int left) (Text right) = false
+same_cell (Text left) (Int right) = false
+same_cell (Text left) (Text right) = pointwise nat_eq left right
+
+-- whether two lists of cells are the same, cell by cell
+abbrev pub same_cells : List Cell → List Cell → Bool
+same_cells left right = pointwise same_cell left right
 
 -- ints by their value and texts by their bytes; an int stands before each text
 abbrev pub cell_cmp : Cell → Cell → Ordering

@@ -8,7 +8,7 @@ use Rattle.std.specs.List.{list_all}
 use Rattle.std.specs.Cmp.Lexicographic.{same_text}
 use Rattle.std.proofs.lemmas.Bool.{cases_Bool, and_parts, not-true, not-false}
 use Rattle.std.proofs.lemmas.List.{take_all}
-use Rattle.std.proofs.lemmas.List.Elements.{All-head, All-weaker}
+use Rattle.std.proofs.lemmas.List.Elements.{All-head, All-tail, All-weaker}
 use Rattle.std.proofs.lemmas.List.Sums.{AllPass-from_list_all}
 use Rattle.depot_cell.specs.declared.cell.Cell.{Cell}
 use Rattle.table_desc.specs.declared.table.Key.{Key}
@@ -25,10 +25,10 @@ use Rattle.view_meaning.specs.Journal.{accepted}
 use Rattle.view_meaning.specs.RawValues.{lies_in, raw_value}
 use Rattle.view_meaning.specs.TableRows.{cells_where}
 use Rattle.view_meaning.specs.SetAside.{kept_rows, kept_after}
-use Rattle.view_meaning.specs.Operations.{operation, filtered}
+use Rattle.view_meaning.specs.Operations.{operation}
 use Rattle.view_meaning.specs.Versions.{touches, loads_after, raw_version, is_raw, is_raw_kind}
 use Rattle.view_meaning.specs.Versions.{version, install_places, last_place, current, recorded}
-use Rattle.view_meaning.specs.Values.{joined, value_over, value_within, value}
+use Rattle.view_meaning.specs.Values.{joined, rows_at, made_of, value_over, value_within, value}
 use Rattle.view_meaning.specs.Staleness.{is_stale, is_settled_within}
 use Rattle.view_meaning.specs.Contents.{rows_kept, loads_kept, raw_content, install_content}
 use Rattle.view_meaning.specs.Contents.{view_content, content_over, content_within}
@@ -73,32 +73,57 @@ raw_content-raw_version desc accepted key =
     (omega (arith, length-loads_kept desc key [] accepted)))
     ∙ flat_map-loads_kept desc key [] accepted
 
--- an operation makes the same of sources with the same rows
-operation-agree : (kind : KindOf) (rows other : Src → List (List Cell))
-    → All (λ src. rows src ≡ other src) (kind_sources kind)
-    → operation kind rows ≡ operation kind other
-operation-agree (Raw _ _) rows other agree = refl
-operation-agree (Filter src conds keep) rows other agree =
-    ap (filtered conds keep) (All-head (λ src. rows src ≡ other src) src [] agree)
-operation-agree (Group _ _ _) rows other agree = refl
-operation-agree (Join _ _ _) rows other agree = refl
+-- two sources with the same rows, if they are there, have the same rows
+rows_at-agree : (rows other : Src → List (List Cell)) (sources : List Src) (place : ℕ)
+    → All (λ src. rows src ≡ other src) sources
+    → rows_at rows (slice_get sources place) ≡ rows_at other (slice_get sources place)
+rows_at-agree rows other [] place agree = refl
+rows_at-agree rows other (src ∷ sources) zero agree =
+    All-head (λ src. rows src ≡ other src) src sources agree
+rows_at-agree rows other (src ∷ sources) (suc place) agree =
+    rows_at-agree rows other sources place
+    (All-tail (λ src. rows src ≡ other src) src sources agree)
 
--- an operation makes no rows of sources without rows
-operation-none : (kind : KindOf) (rows : Src → List (List Cell)) → ((src : Src) → rows src ≡ [])
-    → operation kind rows ≡ []
-operation-none (Raw _ _) rows none = refl
-operation-none (Filter src conds keep) rows none = ap (filtered conds keep) (none src)
-operation-none (Group _ _ _) rows none = refl
-operation-none (Join _ _ _) rows none = refl
+-- a table makes the same of sources with the same rows
+made_of-agree : (kind : KindOf) (rows other : Src → List (List Cell))
+    → All (λ src. rows src ≡ other src) (kind_sources kind)
+    → made_of kind rows ≡ made_of kind other
+made_of-agree kind rows other agree =
+    ap (λ left. operation kind left (rows_at rows (slice_get (kind_sources kind) 1)))
+    (rows_at-agree rows other (kind_sources kind) 0 agree)
+    ∙ ap (operation kind (rows_at other (slice_get (kind_sources kind) 0)))
+    (rows_at-agree rows other (kind_sources kind) 1 agree)
+
+-- a source without rows has none
+rows_at-none : (rows : Src → List (List Cell)) (found : Option Src)
+    → ((src : Src) → rows src ≡ []) → rows_at rows found ≡ []
+rows_at-none rows None none = refl
+rows_at-none rows (Some src) none = none src
+
+-- an operation makes no rows of no rows
+operation-none : (kind : KindOf) → operation kind [] [] ≡ []
+operation-none (Raw _ _) = refl
+operation-none (Filter _ _ _) = refl
+operation-none (Group _ _ _) = refl
+operation-none (Join _ _ _) = refl
+
+-- a table makes no rows of sources without rows
+made_of-none : (kind : KindOf) (rows : Src → List (List Cell)) → ((src : Src) → rows src ≡ [])
+    → made_of kind rows ≡ []
+made_of-none kind rows none =
+    ap (λ left. operation kind left (rows_at rows (slice_get (kind_sources kind) 1)))
+    (rows_at-none rows (slice_get (kind_sources kind) 0) none)
+    ∙ ap (operation kind []) (rows_at-none rows (slice_get (kind_sources kind) 1) none)
+    ∙ operation-none kind
 
 -- a table makes the same of source partitions with the same rows
-pub operation-joined : (desc : DescOf) (rows other : Key → List (List Cell)) (table : TableOf)
+pub made_of-joined : (desc : DescOf) (rows other : Key → List (List Cell)) (table : TableOf)
     (part : ℕ)
     → All (λ source. rows source ≡ other source) (keys_below desc part (Some table))
-    → operation table.kind (joined desc rows table.width part)
-    ≡ operation table.kind (joined desc other table.width part)
-operation-joined desc rows other table part agree =
-    operation-agree table.kind (joined desc rows table.width part)
+    → made_of table.kind (joined desc rows table.width part)
+    ≡ made_of table.kind (joined desc other table.width part)
+made_of-joined desc rows other table part agree =
+    made_of-agree table.kind (joined desc rows table.width part)
     (joined desc other table.width part)
     (All-weaker (λ src. All (λ source. rows source ≡ other source)
     (keys_read desc table.width part src))
@@ -137,7 +162,7 @@ install_content-start : (desc : DescOf) (rows : Key → ℕ → List (List Cell)
     (journal : List Entry) (key : Key) (table : TableOf) → ((source : Key) → rows source 0 ≡ [])
     → install_content desc rows journal key table 0 ≡ []
 install_content-start desc rows journal key table first =
-    operation-none table.kind
+    made_of-none table.kind
     (joined desc (λ source. rows source (version desc [] source)) table.width key.part)
     (λ src. flat_map-none (λ source. rows source (version desc [] source))
     (keys_read desc table.width key.part src)
@@ -195,7 +220,7 @@ content_over-version desc rows other journal key (Some table) is_found first rea
           (ap (view_content desc rows journal key table)
           (version-view desc journal key (ap is_raw is_found ∙ view))
           ∙ view_content-last desc rows journal key table first
-          ∙ operation-joined desc
+          ∙ made_of-joined desc
           (λ source. rows source (version desc (take (last_place journal key) journal) source))
           other table key.part read)
     ]
@@ -233,7 +258,7 @@ value_over-empty : (desc : DescOf) (rows : Key → List (List Cell)) (key : Key)
 value_over-empty desc rows key None none = refl
 value_over-empty desc rows key (Some table) none = elim (cases_Bool (is_raw_kind table.kind)) [
   | inl raw ↦ rw raw refl
-  | inr view ↦ rw view (operation-none table.kind (joined desc rows table.width key.part)
+  | inr view ↦ rw view (made_of-none table.kind (joined desc rows table.width key.part)
       (λ src. flat_map-none rows (keys_read desc table.width key.part src) none))
 ]
 

@@ -13,10 +13,9 @@ use Rattle.table_desc.specs.Tables.{TableOf}
 use Rattle.view_meaning.specs.declared.journal.Entry.{Entry}
 use Rattle.view_meaning.specs.Partitions.{keys_below}
 use Rattle.view_meaning.specs.Journal.{accepted}
-use Rattle.view_meaning.specs.Operations.{operation}
 use Rattle.view_meaning.specs.Versions.{touches, raw_version, install_places, is_raw, is_raw_kind}
 use Rattle.view_meaning.specs.Versions.{version}
-use Rattle.view_meaning.specs.Values.{joined}
+use Rattle.view_meaning.specs.Values.{joined, made_of}
 use Rattle.view_meaning.specs.LegalJournals.{IsLegal}
 use Rattle.view_meaning.specs.Contents.{rows_kept, loads_kept, raw_content, install_content}
 use Rattle.view_meaning.specs.Contents.{view_content, content_over, content_within}
@@ -25,7 +24,7 @@ use Rattle.view_meaning.proofs.JournalLemmas.{accepted-append}
 use Rattle.view_meaning.proofs.RawLemmas.{version-raw}
 use Rattle.view_meaning.proofs.VersionLemmas.{install_places-append, version-view, version-take-le}
 use Rattle.view_meaning.proofs.LegalLemmas.{AreWithin, IsLegal-take, install_places-le}
-use Rattle.view_meaning.proofs.ContentLemmas.{length-loads_kept, operation-joined}
+use Rattle.view_meaning.proofs.ContentLemmas.{length-loads_kept, made_of-joined}
 
 -- the rows of the deliveries of two lists are those of the first, then those of the second
 loads_kept-append : (desc : DescOf) (key : Key) (before accepted more : List DeliveryOf)
@@ -63,10 +62,10 @@ install_content-append : (desc : DescOf) (rows other : Key → ℕ → List (Lis
     ≡ install_content desc other journal key table at
 install_content-append desc rows other journal more key table at within agree =
     let before = take at journal in
-    ap (λ (before : List Entry). operation table.kind
+    ap (λ (before : List Entry). made_of table.kind
     (joined desc (λ source. rows source (version desc before source)) table.width key.part))
     (take-append-le at journal more within)
-    ∙ operation-joined desc (λ source. rows source (version desc before source))
+    ∙ made_of-joined desc (λ source. rows source (version desc before source))
     (λ source. other source (version desc before source)) table key.part
     (λ index default _.
     let source = get_or (keys_below desc key.part (Some table)) index default in

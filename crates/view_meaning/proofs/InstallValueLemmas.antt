@@ -21,7 +21,7 @@ use Rattle.view_meaning.specs.Installs.{HasInstallValues}
 use Rattle.view_meaning.proofs.SourceLemmas.{sources_of-earlier}
 use Rattle.view_meaning.proofs.SettledLemmas.{is_settled_within-enough}
 use Rattle.view_meaning.proofs.LegalLemmas.{SawSettled, install_places-saw}
-use Rattle.view_meaning.proofs.ContentLemmas.{content_within-version, operation-joined}
+use Rattle.view_meaning.proofs.ContentLemmas.{content_within-version, made_of-joined}
 use Rattle.view_meaning.proofs.GrowLemmas.{content_within-take}
 
 -- the sources of an install that saw them settled hold, in the versions that it read, the value
@@ -57,7 +57,7 @@ content_over-install desc rows other journal counted key number None view read =
 content_over-install desc rows other journal counted key number (Some table) view read =
     let before = take (nth_place journal key number) journal in
     rw view
-    (operation-joined desc (λ source. rows source (version desc before source)) other table
+    (made_of-joined desc (λ source. rows source (version desc before source)) other table
     key.part read)
 
 -- the version that an install made holds the value over the deliveries that it counted

@@ -13,6 +13,7 @@ pub mod SettledLemmas
 pub mod InstallLemmas
 pub mod DrainLemmas
 pub mod FitLemmas
+pub mod OperationLemmas
 pub mod ValueLemmas
 pub mod NumberLemmas
 pub mod PartListLemmas

@@ -286,3 +286,9 @@ BeginsWith-step {X = X} xs ys zs first second =
     ∙ take-append-le (length xs) ys (drop (length ys) zs)
     (omega (arith, length-take (length xs) ys, ap (λ (list : List X). length list) first))
     ∙ first
+
+-- what begins with a list and more begins with the list
+pub BeginsWith-append : {X : Type 0} (xs ys zs : List X) → BeginsWith (xs ++ ys) zs
+    → BeginsWith xs zs
+BeginsWith-append xs ys zs begins =
+    BeginsWith-step xs (xs ++ ys) zs (take-append_seam xs ys) begins

@@ -11,10 +11,9 @@ use Rattle.view_meaning.specs.declared.journal.Entry.{Entry}
 use Rattle.view_meaning.specs.Journal.{accepted}
 use Rattle.view_meaning.specs.SetAside.{kept_rows}
 use Rattle.view_meaning.specs.RawValues.{lies_in}
-use Rattle.view_meaning.specs.Operations.{operation}
 use Rattle.view_meaning.specs.Versions.{touches, is_raw_kind, version, nth_place}
 use Rattle.view_meaning.specs.Staleness.{is_settled}
-use Rattle.view_meaning.specs.Values.{joined, value}
+use Rattle.view_meaning.specs.Values.{joined, made_of, value}
 
 -- the rows of the partition that a delivery keeps, if these were accepted before it
 abbrev pub rows_kept : DescOf → Key → List DeliveryOf → DeliveryOf → List (List Cell)
@@ -41,7 +40,7 @@ raw_content desc accepted key number =
 -- versions of the sources have these rows
 abbrev pub install_content : DescOf → (rows : Key → ℕ → List (List Cell)) → List Entry → Key
     → TableOf → (at : ℕ) → List (List Cell)
-install_content desc rows journal key table at = operation table.kind
+install_content desc rows journal key table at = made_of table.kind
     (joined desc (λ source. rows source (version desc (take at journal) source))
     table.width key.part)
 

@@ -6,6 +6,8 @@ use Rattle.table_desc.specs.declared.table.Key.{Key}
 use Rattle.table_desc.specs.declared.view.Src.{Src}
 use Rattle.table_desc.specs.Deliveries.{DeliveryOf}
 use Rattle.table_desc.specs.Descriptions.{DescOf}
+use Rattle.table_desc.specs.KindValues.{KindOf}
+use Rattle.table_desc.specs.Sources.{kind_sources}
 use Rattle.table_desc.specs.Tables.{TableOf}
 use Rattle.view_meaning.specs.Partitions.{keys_read}
 use Rattle.view_meaning.specs.RawValues.{raw_value}
@@ -17,13 +19,23 @@ abbrev pub joined : DescOf → (rows : Key → List (List Cell)) → (width part
     → List (List Cell)
 joined desc rows width part src = flat_map rows (keys_read desc width part src)
 
+-- the rows of a source, and none if there is no such source
+abbrev pub rows_at : (Src → List (List Cell)) → Option Src → List (List Cell)
+rows_at rows None = []
+rows_at rows (Some src) = rows src
+
+-- what a table of this kind makes of its sources, if each source has these rows
+abbrev pub made_of : KindOf → (Src → List (List Cell)) → List (List Cell)
+made_of kind rows = operation kind (rows_at rows (slice_get (kind_sources kind) 0))
+    (rows_at rows (slice_get (kind_sources kind) 1))
+
 -- the value of a partition of this table, if the partitions of earlier tables have these rows
 abbrev pub value_over : DescOf → List DeliveryOf → (rows : Key → List (List Cell)) → Key
     → Option TableOf → List (List Cell)
 value_over desc accepted rows key None = []
 value_over desc accepted rows key (Some table) =
     if is_raw_kind table.kind then raw_value desc accepted key
-    else operation table.kind (joined desc rows table.width key.part)
+    else made_of table.kind (joined desc rows table.width key.part)
 
 -- the value of a partition, down through at most so many tables
 abbrev pub value_within : ℕ → DescOf → List DeliveryOf → Key → List (List Cell)

@@ -6,7 +6,10 @@
 //! be read beside the definition. Faster programs above keep the same definitions.
 #![tactic(auto)]
 
+mod columns;
 mod filtering;
+mod grouping;
+mod joining;
 mod journal;
 mod laws;
 mod parts;

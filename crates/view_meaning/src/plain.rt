@@ -11,19 +11,22 @@ ghost use Rattle.view_meaning.specs.Journal.{tick_of, row_tick};
 ghost use Rattle.view_meaning.specs.Growth.{BeginsWith};
 ghost use Rattle.view_meaning.specs.RawValues.{raw_value};
 ghost use Rattle.view_meaning.specs.TableRows.{lies_in_table, cells_where};
-ghost use Rattle.view_meaning.specs.Values.{value, value_within};
+ghost use Rattle.view_meaning.specs.Values.{joined, value, value_within};
 ghost use Rattle.view_meaning.specs.Versions.{raw_version};
 
-use crate::filtering::filter_rows;
+use crate::filtering::push_filtered;
+use crate::grouping::push_groups;
+use crate::joining::push_joined;
 use crate::parts::{Parts, parts_read};
 use depot_cell::{Cell, Memory, Row, Rows, copy_row};
 use std::alloc::Global;
 use table_desc::{DRow, Delivery, Desc, END, Key, Kind, Src, Table, Width};
 
 /// The rows of a partition. Of a raw table they are its rows, in order of acceptance, then of
-/// record; of a filter what it makes of the rows of its source. Groups and joins have no rows yet,
-/// and a key of no table has none. It goes over all accepted deliveries for each raw partition
-/// below, and again if a partition is read twice.
+/// record; of a view what it makes of the rows of its sources. A key of no table has no rows. It
+/// goes over all accepted deliveries for each raw partition below, and again if a partition is read
+/// twice. A group looks through the rows of its source for each of its keys, and a join through the
+/// right rows for each left one.
 pub fn plain_value(
     alloc: Global,
     desc: &Desc,
@@ -32,7 +35,10 @@ pub fn plain_value(
 ) -> Result<Rows, Memory>
     ensures exact { IfOk result (λ rows. rows ≡ value desc.now accepted.now key) }
 {
-    value_within(alloc, desc, accepted, usize::from(key.table) + 1, key)
+    let mut rows = Rows::new(alloc);
+    let depth = usize::from(key.table) + 1;
+    push_value(alloc, desc, accepted, depth, key, &mut rows)?;
+    Ok(rows)
 }
 
 /// The version of a raw table's partition: how many accepted deliveries brought a row of it. Of a
@@ -52,53 +58,92 @@ pub fn plain_version(desc: &Desc, accepted: &[Delivery], key: Key) -> u64
     version
 }
 
-/// The rows of a partition, down through at most so many tables.
-fn value_within(
+/// Puts the rows of a partition at the end, down through at most so many tables. After an `Err`
+/// there may be some of them.
+#[cycle(push_value)]
+fn push_value(
     alloc: Global,
     desc: &Desc,
     accepted: &[Delivery],
     depth: usize,
     key: Key,
-) -> Result<Rows, Memory>
-    ensures exact { IfOk result (λ rows. rows ≡ value_within depth desc.now accepted.now key) }
+    rows: &mut Rows,
+) -> Result<(), Memory>
+    ensures ok { OnOk result (rows.new
+        ≡ rows.old ++ value_within depth desc.now accepted.now key) }
+    ensures err { OnErr result (BeginsWith rows.old rows.new) }
 {
     if depth == 0 {
-        return Ok(Rows::new(alloc));
+        return Ok(());
     }
     let Some(table) = table_at(desc, key.table) else {
-        return Ok(Rows::new(alloc));
+        return Ok(());
     };
+    let depth = depth - 1;
     match &table.kind {
-        Kind::Raw { .. } => raw_rows(alloc, desc, accepted, key),
+        Kind::Raw { .. } => push_raw(alloc, desc, accepted, key, rows),
         Kind::Filter { src, conds, keep } => {
-            let mut rows = Rows::new(alloc);
-            let read = source_parts(desc, table.width, key.part, *src);
-            for part in read.first..read.first + read.count {
-                let source = Key {
-                    table: src.table,
-                    part,
-                };
-                let source_rows = value_within(alloc, desc, accepted, depth - 1, source)?;
-                filter_rows(alloc, conds, keep, &source_rows, &mut rows)?;
-            }
-            Ok(rows)
+            let source = source_rows(alloc, desc, accepted, depth, table.width, key.part, *src)?;
+            push_filtered(alloc, conds, keep, &source, rows)
         }
-        Kind::Group { .. } | Kind::Join { .. } => Ok(Rows::new(alloc)),
+        Kind::Group { src, keys, aggs } => {
+            let source = source_rows(alloc, desc, accepted, depth, table.width, key.part, *src)?;
+            push_groups(alloc, keys, aggs, &source, rows)
+        }
+        Kind::Join { left, right, on } => {
+            let left = source_rows(alloc, desc, accepted, depth, table.width, key.part, *left)?;
+            let right = source_rows(alloc, desc, accepted, depth, table.width, key.part, *right)?;
+            push_joined(alloc, on, &left, &right, rows)
+        }
     }
 }
 
-/// The rows of a raw table's partition, in order of acceptance, then of record.
-fn raw_rows(alloc: Global, desc: &Desc, accepted: &[Delivery], key: Key) -> Result<Rows, Memory>
-    ensures exact { IfOk result (λ rows. rows ≡ raw_value desc.now accepted.now key) }
+/// The rows of the partitions of a source that a view's partition reads, in order of partition,
+/// down through at most so many tables.
+#[cycle(push_value)]
+fn source_rows(
+    alloc: Global,
+    desc: &Desc,
+    accepted: &[Delivery],
+    depth: usize,
+    width: Width,
+    part: u64,
+    src: Src,
+) -> Result<Rows, Memory>
+    ensures exact { IfOk result (λ rows. rows
+        ≡ joined desc.now (value_within depth desc.now accepted.now) width part src) }
 {
     let mut rows = Rows::new(alloc);
-    let Some(table) = table_at(desc, key.table) else {
-        return Ok(rows);
-    };
-    for delivery in accepted {
-        push_rows(alloc, table, key, delivery, &mut rows)?;
+    let read = source_parts(desc, width, part, src);
+    for part in read.first..read.first + read.count {
+        let source = Key {
+            table: src.table,
+            part,
+        };
+        push_value(alloc, desc, accepted, depth, source, &mut rows)?;
     }
     Ok(rows)
+}
+
+/// Puts the rows of a raw table's partition at the end, in order of acceptance, then of record.
+/// After an `Err` there may be some of them.
+fn push_raw(
+    alloc: Global,
+    desc: &Desc,
+    accepted: &[Delivery],
+    key: Key,
+    rows: &mut Rows,
+) -> Result<(), Memory>
+    ensures ok { OnOk result (rows.new ≡ rows.old ++ raw_value desc.now accepted.now key) }
+    ensures err { OnErr result (BeginsWith rows.old rows.new) }
+{
+    let Some(table) = table_at(desc, key.table) else {
+        return Ok(());
+    };
+    for delivery in accepted {
+        push_rows(alloc, table, key, delivery, rows)?;
+    }
+    Ok(())
 }
 
 /// The partitions of a source that a view's partition reads. A source that is no table has none.

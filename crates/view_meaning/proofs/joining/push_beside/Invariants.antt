@@ -1,0 +1,7 @@
+use Rattle.std.proofs.Common.{◌≡◌, ◌++◌, take}
+use Rattle.view_meaning.specs.Operations.{beside}
+use Rattle.view_meaning.proofs.joining.push_beside.Given as goal
+
+-- the rows are those from before, and the row beside the others so far
+abbrev pub invariant-loop-other : goal.invariant-loop-other
+invariant-loop-other l = l.rows ≡ l.fn.rows ++ beside l.row (take l.other-index l.other-items)
