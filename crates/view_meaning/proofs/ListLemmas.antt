@@ -1,6 +1,6 @@
 -- Facts on lists of anything, and on runs of numbers, that std does not have. Take
 -- `filter-range_with_len` if a test passes exactly on a run of numbers.
-use Rattle.std.proofs.Common.{◌≡◌, ◌∙◌, ℕ, zero, suc, ◌+◌, ◌-◌, ◌<◌, ◌≤◌, List, [], ◌∷◌, ◌++◌}
+use Rattle.std.proofs.Common.{◌≡◌, ◌∙◌, ℕ, suc, ◌+◌, ◌<◌, List, [], ◌∷◌, ◌++◌}
 use Rattle.std.proofs.Common.{length, take, drop, get_or, map, cond, refl, sym, ap, arith}
 use Rattle.std.specs.Prelude.{Bool, true, false, not, ◌&&◌, ◌||◌, ◌==◌, All, flat_map, fold, nat_eq}
 use Rattle.std.specs.Prelude.{if◌then◌else◌}
@@ -9,7 +9,7 @@ use Rattle.std.specs.Cmp.Lexicographic.{pointwise}
 use Rattle.std.proofs.Math.Seq.{take-append_seam, drop-append_seam}
 use Rattle.std.proofs.lemmas.Bool.{or_parts, eq-eqb}
 use Rattle.std.proofs.lemmas.List.{length-take, take-append-drop, take-append-le}
-use Rattle.std.proofs.lemmas.List.{append-nil, get_or-map, get_or_append_left, get_or_at}
+use Rattle.std.proofs.lemmas.List.{get_or-map, get_or_append_left, get_or_at}
 use Rattle.std.proofs.lemmas.List.{length-append}
 use Rattle.std.proofs.lemmas.List.Elements.{All-nil, All-cons, All-head, All-tail, All-map}
 use Rattle.std.proofs.lemmas.List.Elements.{All-append, All-same, All-take, All-drop, filter-append}

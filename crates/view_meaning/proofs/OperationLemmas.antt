@@ -1,7 +1,7 @@
 -- What one row more does to a sum and to the best cell of a column.
-use Rattle.std.proofs.Common.{◌≡◌, ◌∙◌, ℕ, ℤ, pos, ◌+ℤ◌, ◌+◌, ◌*◌, ◌^◌, ◌<◌, ◌≤◌, List, [], ◌∷◌, ◌++◌}
-use Rattle.std.proofs.Common.{take, get_or, length, refl, sym, ap, map, arith}
-use Rattle.std.specs.Prelude.{Option, Some, None, FitsSigned, filter_map, fold, slice_get, unsigned_abs}
+use Rattle.std.proofs.Common.{◌≡◌, ◌∙◌, ℕ, ℤ, pos, ◌+ℤ◌, ◌+◌, ◌*◌, ◌^◌, ◌<◌, ◌≤◌, List, [], ◌∷◌}
+use Rattle.std.proofs.Common.{◌++◌, take, get_or, length, refl, sym, ap, map, arith}
+use Rattle.std.specs.Prelude.{Option, Some, None, FitsSigned, fold, slice_get, unsigned_abs}
 use Rattle.std.specs.Int.{w64, w128}
 use Rattle.std.specs.List.{cons_option}
 use Rattle.std.specs.Option.{option_to_list}
@@ -11,7 +11,7 @@ use Rattle.std.proofs.lemmas.List.Elements.{filter_map-append}
 use Rattle.std.proofs.lemmas.List.Sums.{fold-append}
 use Rattle.depot_cell.specs.declared.cell.Cell.{Cell}
 use Rattle.depot_cell.specs.declared.cell.Op.{Op}
-use Rattle.view_meaning.specs.Operations.{best_by, beats, column_of, number_in, total}
+use Rattle.view_meaning.specs.Operations.{best_by, column_of, number_in, total}
 
 -- one row more of the list
 take-push : (rows : List (List Cell)) (index : ℕ) (cells : List Cell)

@@ -1,8 +1,8 @@
--- The value of a partition, one table down: `value_within-raw` of a raw table, `value_within-view` of
--- a view. In a loop over the partitions of a source take `rows_of_run-push`.
-use Rattle.std.proofs.Common.{◌≡◌, ◌∙◌, ℕ, suc, zero, ◌+◌, ◌-◌, ◌<◌, ◌≤◌, List, [], ◌∷◌, ◌++◌, refl}
-use Rattle.std.proofs.Common.{ap, arith, map}
-use Rattle.std.specs.Prelude.{Some, true, false, flat_map, slice_get}
+-- The value of a view's partition, one table down: `value_within-view`. In a loop over the
+-- partitions of a source take `rows_of_run-push`.
+use Rattle.std.proofs.Common.{◌≡◌, ◌∙◌, ℕ, suc, zero, ◌+◌, ◌-◌, ◌<◌, ◌≤◌, List, [], ◌∷◌, ◌++◌}
+use Rattle.std.proofs.Common.{refl, ap, arith, map}
+use Rattle.std.specs.Prelude.{Some, false, flat_map, slice_get}
 use Rattle.std.specs.List.{range_with_len}
 use Rattle.std.proofs.lemmas.Grind.{flat_map-append}
 use Rattle.std.proofs.lemmas.List.{append-nil}
@@ -14,7 +14,6 @@ use Rattle.table_desc.specs.Descriptions.{DescOf}
 use Rattle.table_desc.specs.Tables.{TableOf}
 use Rattle.table_desc.specs.KindValues.{KindOf}
 use Rattle.table_desc.specs.Sources.{kind_sources}
-use Rattle.view_meaning.specs.RawValues.{raw_value}
 use Rattle.view_meaning.specs.Operations.{operation}
 use Rattle.view_meaning.specs.Versions.{is_raw_kind}
 use Rattle.view_meaning.specs.Values.{joined, rows_at, value_over, value_within}
@@ -50,23 +49,17 @@ rows_of_run-push rows table from part at_least =
     ∙ flat_map-append rows (map key (range_with_len from many)) (key part ∷ [])
     ∙ ap (λ last. rows_of_run rows table from many ++ last) (append-nil (rows (key part)))
 
--- the value of a raw table's partition is its raw value
-pub value_within-raw : (desc : DescOf) (accepted : List DeliveryOf) (depth : ℕ) (key : Key)
-    (table : TableOf) → 0 < depth → slice_get desc.tables key.table ≡ Some table
-    → is_raw_kind table.kind ≡ true
-    → value_within depth desc accepted key ≡ raw_value desc accepted key
-value_within-raw desc accepted depth key table some found raw =
-    value_within-step desc accepted depth key some ∙ rw (found, raw) refl
-
 -- the value of a view's partition is what it makes of the values of its left and right source
 pub value_within-view : (desc : DescOf) (accepted : List DeliveryOf) (depth : ℕ) (key : Key)
-    (table : TableOf) (kind : KindOf) (left right : List (List Cell))
+    (table : TableOf) (kind : KindOf) (width : ℕ) (left right : List (List Cell))
     → 0 < depth → slice_get desc.tables key.table ≡ Some table
-    → table.kind ≡ kind → is_raw_kind kind ≡ false
-    → rows_at (joined desc (value_within (depth - 1) desc accepted) table.width key.part)
-    (slice_get (kind_sources kind) 0) ≡ left
-    → rows_at (joined desc (value_within (depth - 1) desc accepted) table.width key.part)
-    (slice_get (kind_sources kind) 1) ≡ right
+    → table.kind ≡ kind → is_raw_kind kind ≡ false → width ≡ table.width
+    → left ≡ rows_at (joined desc (value_within (depth - 1) desc accepted) width key.part)
+    (slice_get (kind_sources kind) 0)
+    → right ≡ rows_at (joined desc (value_within (depth - 1) desc accepted) width key.part)
+    (slice_get (kind_sources kind) 1)
     → value_within depth desc accepted key ≡ operation kind left right
-value_within-view desc accepted depth key table kind left right some found is view first second =
-    value_within-step desc accepted depth key some ∙ rw (found, is, view, first, second) refl
+value_within-view desc accepted depth key table kind width left right some found is view wide first
+    second =
+    value_within-step desc accepted depth key some
+    ∙ rw (found, is, view, ← wide, ← first, ← second) refl

@@ -80,8 +80,6 @@ pub(crate) fn push_copy(alloc: Global, cell: &Cell, row: &mut Row) -> Result<(),
     ensures ok { OnOk result (row.new ≡ row.old ++ cell.now ∷ []) }
     ensures err { OnErr result (row.new ≡ row.old) }
 {
-    match row.push(copy_cell(alloc, cell)?) {
-        Ok(()) => Ok(()),
-        Err(_) => Err(Memory),
-    }
+    row.push(copy_cell(alloc, cell)?)?;
+    Ok(())
 }

@@ -23,8 +23,8 @@ pub(crate) fn push_filtered(
     ensures err { OnErr result (BeginsWith rows.old rows.new) }
 {
     for row in source.rows() {
-        if meets_all(conds, row) && rows.push(cut_row(alloc, keep, row)?).is_err() {
-            return Err(Memory);
+        if meets_all(conds, row) {
+            rows.push(cut_row(alloc, keep, row)?)?;
         }
     }
     Ok(())

@@ -52,13 +52,10 @@ fn push_key(key: Row, keys: &mut Rows) -> Result<(), Memory>
     ensures ok { OnOk result (keys.new ≡ with_key keys.old key) }
     ensures err { OnErr result (keys.new ≡ keys.old) }
 {
-    if is_among(&key, keys) {
-        return Ok(());
+    if !is_among(&key, keys) {
+        keys.push(key)?;
     }
-    match keys.push(key) {
-        Ok(()) => Ok(()),
-        Err(_) => Err(Memory),
-    }
+    Ok(())
 }
 
 /// Whether a key is among some others.
@@ -101,10 +98,8 @@ fn push_clamped(number: i128, row: &mut Row) -> Result<(), Memory>
     ensures err { OnErr result (row.new ≡ row.old) }
 {
     let nearest = number.clamp(i128::from(i64::MIN), i128::from(i64::MAX));
-    match row.push(Cell::Int(nearest as i64)) {
-        Ok(()) => Ok(()),
-        Err(_) => Err(Memory),
-    }
+    row.push(Cell::Int(nearest as i64))?;
+    Ok(())
 }
 
 /// Puts a copy of a cell at the end, if there is one.

@@ -79,20 +79,20 @@ fn push_value(
     let Some(table) = table_at(desc, key.table) else {
         return Ok(());
     };
-    let depth = depth - 1;
+    let below = depth - 1;
     match &table.kind {
         Kind::Raw { .. } => push_raw(alloc, desc, accepted, key, rows),
         Kind::Filter { src, conds, keep } => {
-            let source = source_rows(alloc, desc, accepted, depth, table.width, key.part, *src)?;
+            let source = source_rows(alloc, desc, accepted, below, table.width, key.part, *src)?;
             push_filtered(alloc, conds, keep, &source, rows)
         }
         Kind::Group { src, keys, aggs } => {
-            let source = source_rows(alloc, desc, accepted, depth, table.width, key.part, *src)?;
+            let source = source_rows(alloc, desc, accepted, below, table.width, key.part, *src)?;
             push_groups(alloc, keys, aggs, &source, rows)
         }
         Kind::Join { left, right, on } => {
-            let left = source_rows(alloc, desc, accepted, depth, table.width, key.part, *left)?;
-            let right = source_rows(alloc, desc, accepted, depth, table.width, key.part, *right)?;
+            let left = source_rows(alloc, desc, accepted, below, table.width, key.part, *left)?;
+            let right = source_rows(alloc, desc, accepted, below, table.width, key.part, *right)?;
             push_joined(alloc, on, &left, &right, rows)
         }
     }
@@ -179,8 +179,8 @@ fn push_rows(
     ensures err { OnErr result (BeginsWith rows.old rows.new) }
 {
     for row in &delivery.rows {
-        if lies_in_table(table, key, row) && rows.push(copy_row(alloc, &row.cells)?).is_err() {
-            return Err(Memory);
+        if lies_in_table(table, key, row) {
+            rows.push(copy_row(alloc, &row.cells)?)?;
         }
     }
     Ok(())

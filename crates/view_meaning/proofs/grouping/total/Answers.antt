@@ -1,4 +1,4 @@
-use Rattle.std.proofs.Common.{rules, ◌≡◌, ◌∙◌, ◌+ℤ◌, refl}
+use Rattle.std.proofs.Common.{rules, ◌+ℤ◌, refl}
 use Rattle.std.specs.Prelude.{FitsSigned}
 use Rattle.std.specs.Int.{w128}
 use Rattle.std.proofs.lemmas.Int.{to_z-of_z}
@@ -28,7 +28,12 @@ loop-row-preserved c =
       to_z-of_z w128 (c.loop-row.sum +ℤ c.number_at-sum.result) (next-fits c),
     )
     (record {
-      summed = rw (more, ← c.loop-row.invariant.summed, ← c.number_at-sum.ensures.exact, c.loop-row.sum-is) refl;
+      summed = rw (
+        more,
+        ← c.loop-row.invariant.summed,
+        ← c.number_at-sum.ensures.exact,
+        c.loop-row.sum-is,
+      ) refl;
       within = sum-within c.loop-row.sum c.number_at-sum.result c.loop-row.row-index
           (rw c.loop-row.sum-is at c.loop-row.invariant.within) c.number_at-sum.ensures.within;
     })

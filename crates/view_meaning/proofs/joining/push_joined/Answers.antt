@@ -1,6 +1,4 @@
 use Rattle.std.proofs.Common.{rules}
-use Rattle.view_meaning.specs.Growth.{BeginsWith}
-use Rattle.view_meaning.specs.Operations.{joined_rows}
 use Rattle.view_meaning.proofs.ListLemmas.{BeginsWith-append}
 use Rattle.view_meaning.proofs.joining.push_joined.Goals as goal
 

@@ -1,4 +1,4 @@
-use Rattle.std.proofs.Common.{◌≡◌, ◌∙◌, ◌-◌, [], refl, sym, ap, arith}
+use Rattle.std.proofs.Common.{◌∙◌, [], refl, sym, ap, arith}
 use Rattle.table_desc.specs.Tables.{TableOf}
 use Rattle.table_desc.specs.KindValues.{Filter, Group, Join}
 use Rattle.view_meaning.specs.Values.{value_within}
@@ -8,41 +8,44 @@ use Rattle.view_meaning.proofs.plain.+push_value.Goals as goal
 pub push_value-returns-in_ok-source-in-Filter-clause-ok :
     goal.push_value-returns-in_ok-source-in-Filter-clause-ok
 push_value-returns-in_ok-source-in-Filter-clause-ok t c =
-    let width : c.table.inside.width ≡ c.in-Some.table.now.width =
-    ap (λ (table : TableOf). table.width) c.table.view_is in
-    let kind : c.in-Some.table.now.kind ≡ Filter c.in-Filter.src c.in-Filter.conds.items c.in-Filter.keep.items = rw (← c.table.view_is, c.in-Filter.is) refl in
+    let kind = Filter c.in-Filter.src c.in-Filter.conds.items c.in-Filter.keep.items in
     let value = value_within-view c.args.desc.now c.args.accepted.now c.args.depth c.args.key
-    c.in-Some.table.now (Filter c.in-Filter.src c.in-Filter.conds.items c.in-Filter.keep.items) c.in_ok-source-in-Filter.source []
-    (omega arith) (sym c.in-Some.ensures.exact) kind refl
-    (sym (rw width at c.in_ok-source-in-Filter.ensures.exact)) refl in
-    rw value (rw (c.deref.ensures.value, c.deref-in-Filter.ensures.value) at c.push_filtered.ensures.ok)
+    c.in-Some.table.now kind c.table.inside.width c.in_ok-source-in-Filter.source []
+    (omega arith) (sym c.in-Some.ensures.exact)
+    (rw (← c.table.view_is, c.in-Filter.is) refl) refl
+    (ap (λ (table : TableOf). table.width) c.table.view_is)
+    c.in_ok-source-in-Filter.ensures.exact refl in
+    rw value (rw (c.deref.ensures.value, c.deref-in-Filter.ensures.value)
+    at c.push_filtered.ensures.ok)
 
 pub push_value-returns-in_ok-source-in-Group-clause-ok :
     goal.push_value-returns-in_ok-source-in-Group-clause-ok
 push_value-returns-in_ok-source-in-Group-clause-ok t c =
-    let width : c.table.inside.width ≡ c.in-Some.table.now.width =
-    ap (λ (table : TableOf). table.width) c.table.view_is in
-    let kind : c.in-Some.table.now.kind ≡ Group c.in-Group.src c.in-Group.keys.items c.in-Group.aggs.items = rw (← c.table.view_is, c.in-Group.is) refl in
+    let kind = Group c.in-Group.src c.in-Group.keys.items c.in-Group.aggs.items in
     let value = value_within-view c.args.desc.now c.args.accepted.now c.args.depth c.args.key
-    c.in-Some.table.now (Group c.in-Group.src c.in-Group.keys.items c.in-Group.aggs.items) c.in_ok-source-in-Group.source []
-    (omega arith) (sym c.in-Some.ensures.exact) kind refl
-    (sym (rw width at c.in_ok-source-in-Group.ensures.exact)) refl in
-    rw value (rw (c.deref-in-Group.ensures.value, c.deref-in-Group-2.ensures.value) at c.push_groups.ensures.ok)
+    c.in-Some.table.now kind c.table.inside.width c.in_ok-source-in-Group.source []
+    (omega arith) (sym c.in-Some.ensures.exact)
+    (rw (← c.table.view_is, c.in-Group.is) refl) refl
+    (ap (λ (table : TableOf). table.width) c.table.view_is)
+    c.in_ok-source-in-Group.ensures.exact refl in
+    rw value (rw (c.deref-in-Group.ensures.value, c.deref-in-Group-2.ensures.value)
+    at c.push_groups.ensures.ok)
 
 pub push_value-returns-in_ok-right-in-Join-clause-ok :
     goal.push_value-returns-in_ok-right-in-Join-clause-ok
 push_value-returns-in_ok-right-in-Join-clause-ok t c =
-    let width : c.table.inside.width ≡ c.in-Some.table.now.width =
-    ap (λ (table : TableOf). table.width) c.table.view_is in
-    let kind : c.in-Some.table.now.kind ≡ Join c.in-Join.left c.in-Join.right c.in-Join.on.items = rw (← c.table.view_is, c.in-Join.is) refl in
+    let kind = Join c.in-Join.left c.in-Join.right c.in-Join.on.items in
     let value = value_within-view c.args.desc.now c.args.accepted.now c.args.depth c.args.key
-    c.in-Some.table.now (Join c.in-Join.left c.in-Join.right c.in-Join.on.items) c.in_ok-left-in-Join.left c.in_ok-right-in-Join.right
-    (omega arith) (sym c.in-Some.ensures.exact) kind refl
-    (sym (rw width at c.in_ok-left-in-Join.ensures.exact)) (sym (rw width at c.in_ok-right-in-Join.ensures.exact)) in
-    rw value (rw (c.deref-in-Join.ensures.value) at c.push_joined.ensures.ok)
+    c.in-Some.table.now kind c.table.inside.width c.in_ok-left-in-Join.left
+    c.in_ok-right-in-Join.right (omega arith) (sym c.in-Some.ensures.exact)
+    (rw (← c.table.view_is, c.in-Join.is) refl) refl
+    (ap (λ (table : TableOf). table.width) c.table.view_is)
+    c.in_ok-left-in-Join.ensures.exact c.in_ok-right-in-Join.ensures.exact in
+    rw value (rw c.deref-in-Join.ensures.value at c.push_joined.ensures.ok)
 
 pub source_rows-loop-part-preserved : goal.source_rows-loop-part-preserved
 source_rows-loop-part-preserved t c =
-    let more = rows_of_run-push (value_within c.args.depth c.args.desc.now c.args.accepted.now)
-    c.args.src.table c.source_parts-read.result.first c.loop-part.part (omega arith) in
+    let rows = value_within c.args.depth c.args.desc.now c.args.accepted.now in
+    let more = rows_of_run-push rows c.args.src.table c.source_parts-read.result.first
+    c.loop-part.part (omega arith) in
     rw c.loop-part.invariant at c.in_ok-push_value.ensures.ok ∙ sym more
