@@ -2,8 +2,7 @@
 //!
 //! Sums are computed in 128 bits. They cannot overflow, since a `Rows` has fewer than 2^44 rows.
 
-ghost use Rattle.std.specs.Prelude.{◌≡◌, ◌++◌, ◌∷◌, [], IfOk, OnErr, OnOk, FitsSigned, slice_get};
-ghost use Rattle.std.specs.Int.{w64};
+ghost use Rattle.std.specs.Prelude.{◌≡◌, ◌++◌, ◌∷◌, [], IfOk, OnErr, OnOk, slice_get};
 ghost use Rattle.std.specs.List.{list_any};
 ghost use Rattle.std.specs.Option.{option_copied, option_to_list};
 ghost use Rattle.depot_cell.specs.Cells.{same_cells};
@@ -29,7 +28,7 @@ pub(crate) fn push_groups(
     ensures err { OnErr result (BeginsWith rows.old rows.new) }
 {
     let keys = keys_in(alloc, columns, source)?;
-    for key in keys.rows() {
+    for key in &keys {
         let group = rows_with(alloc, columns, key, source)?;
         rows.push(group_row(alloc, aggs, key, &group)?)?;
     }
@@ -37,10 +36,10 @@ pub(crate) fn push_groups(
 }
 
 /// The keys of some rows, each once, in order of first appearance.
-fn keys_in(alloc: Global, columns: &[u16], source: &Rows) -> Result<Rows, Memory>
-    ensures exact { IfOk result (λ keys. keys ≡ keys_in columns.now source.now) }
+fn keys_in(alloc: Global, columns: &[u16], source: &Rows) -> Result<Vec<Row>, Memory>
+    ensures exact { IfOk result (λ keys. keys.items ≡ keys_in columns.now source.now) }
 {
-    let mut keys = Rows::new(alloc);
+    let mut keys = Vec::new(alloc);
     for row in source.rows() {
         push_key(cut_row(alloc, columns, row)?, &mut keys)?;
     }
@@ -48,9 +47,9 @@ fn keys_in(alloc: Global, columns: &[u16], source: &Rows) -> Result<Rows, Memory
 }
 
 /// Puts a key at the end, if it is not there yet.
-fn push_key(key: Row, keys: &mut Rows) -> Result<(), Memory>
-    ensures ok { OnOk result (keys.new ≡ with_key keys.old key) }
-    ensures err { OnErr result (keys.new ≡ keys.old) }
+fn push_key(key: Row, keys: &mut Vec<Row>) -> Result<(), Memory>
+    ensures ok { OnOk result (keys.new.items ≡ with_key keys.old.items key) }
+    ensures err { OnErr result (keys.new.items ≡ keys.old.items) }
 {
     if !is_among(&key, keys) {
         keys.push(key)?;
@@ -59,10 +58,10 @@ fn push_key(key: Row, keys: &mut Rows) -> Result<(), Memory>
 }
 
 /// Whether a key is among some others.
-fn is_among(key: &Row, keys: &Rows) -> bool
+fn is_among(key: &Row, keys: &[Row]) -> bool
     ensures exact { result ≡ list_any (same_cells key.now) keys.now }
 {
-    keys.rows().iter().any(|other| same_cells(key, other))
+    keys.iter().any(|other| same_cells(key, other))
 }
 
 /// The row of a group: its key, then each aggregate over its rows.
@@ -119,18 +118,17 @@ fn total(column: u16, rows: &Rows) -> i128
 {
     let mut sum = 0;
     for row in rows.rows() {
-        sum += number_at(row, column);
+        sum += i128::from(number_at(row, column));
     }
     sum
 }
 
 /// The number of a row in a column. A text counts 0, and so does a cell that is not there.
-fn number_at(row: &Row, column: u16) -> i128
+fn number_at(row: &Row, column: u16) -> i64
     ensures exact { result ≡ number_in (slice_get row.now column) }
-    ensures within { FitsSigned w64 result }
 {
     match cell_at(row, column) {
-        Some(Cell::Int(number)) => i128::from(*number),
+        Some(Cell::Int(number)) => *number,
         Some(Cell::Text(_)) => 0,
         None => 0,
     }
