@@ -28,9 +28,10 @@ use crate::reply::texts::{
 };
 use crate::script::work::Work;
 use depot_cell::{Memory, Rows};
+use partition_map::{Parts, parts_of_span};
 use std::alloc::Global;
 use table_desc::{Delivery, Key, Kind, ServedDesc, Table};
-use view_meaning::{Item, Loaded, Mark, Parts, PinItem, parts_of_span, plain_value, plain_version};
+use view_meaning::{Item, Loaded, Mark, PinItem, plain_value, plain_version};
 
 /// Does what an item asks for, and makes the text of the reply. `line` is the item's line, from 1.
 /// Without memory a drain may have made some of its installs, and nothing else has changed.

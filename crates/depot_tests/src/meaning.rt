@@ -6,10 +6,11 @@ ghost use Rattle.partition_map.specs.Time.{IsWidth};
 ghost use Rattle.table_desc.specs.Sources.{HasAlignedSources, HasEarlierSources, kind_sources};
 
 use depot_cell::{Cell, Op, Row, Str};
+use partition_map::{Parts, parts_of_span};
 use std::alloc::Global;
 use std::test::Fail;
 use table_desc::{Cond, DRow, Delivery, Desc, END, Key, Kind, Span, Src, Table, Width};
-use view_meaning::{Parts, parts_of_span, plain_value, plain_version, reached_keys};
+use view_meaning::{plain_value, plain_version, reached_keys};
 
 /// A table in partitions of so many ticks. It names no columns, since no call here looks at them.
 fn table(alloc: Global, ticks: u64, kind: Kind) -> Result<Table, Fail>

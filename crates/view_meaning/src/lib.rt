@@ -22,7 +22,6 @@ pub use laws::{
     drains_are_legal, drains_fit, drains_settle, installs_are_values, reached_are_unsettled,
     settled_is_value, shown_is_content,
 };
-pub use parts::{Parts, parts_of_span};
 pub use plain::{plain_value, plain_version};
 pub use reached::reached_keys;
 pub use request::{Item, Mark, PinItem, compare_marks};

@@ -1,37 +1,11 @@
-//! The partitions that share a tick with a span of ticks, by division.
+//! The partitions of a source that a view's partition reads, for any span and any number.
 
 ghost use Rattle.std.specs.Prelude.{pos, ◌≡◌, ◌+◌, ◌*◌, ◌^◌, ◌≤◌, ◌+ℤ◌};
 ghost use Rattle.std.specs.List.{range_with_len};
 ghost use Rattle.partition_map.specs.Time.{END};
-ghost use Rattle.partition_map.specs.Partitions.{parts_met, source_parts, tick_at_least};
+ghost use Rattle.partition_map.specs.Partitions.{source_parts, tick_at_least};
 
-use table_desc::{END, Span, Width};
-
-/// A run of partitions: the number of the first, and how many there are.
-#[derive(Clone, Copy, Debug, PartialEq, Eq)]
-pub struct Parts {
-    pub first: u64,
-    pub count: u64,
-}
-
-/// The partitions that share a tick with `from` up to, but not including, `to`.
-pub fn parts_of_span(width: Width, from: u64, to: u64) -> Parts
-    requires in_order { from ≤ to }
-    requires in_time { to ≤ END }
-    ensures exact { parts_met width from to ≡ range_with_len result.first result.count }
-    ensures first { result.count ≡ 0 → result.first ≡ 0 }
-    ensures within { result.first + result.count ≤ to }
-{
-    if from == to {
-        return Parts { first: 0, count: 0 };
-    }
-    let first = from / width.ticks();
-    let last = (to - 1) / width.ticks();
-    Parts {
-        first,
-        count: last - first + 1,
-    }
-}
+use partition_map::{END, Parts, Span, Width, parts_of_span};
 
 /// The partitions of a source that a view's partition reads. If the span ends before it begins,
 /// or lies after the end of time, there are none.

@@ -17,8 +17,9 @@ ghost use Rattle.view_meaning.specs.Versions.{raw_version};
 use crate::filtering::push_filtered;
 use crate::grouping::push_groups;
 use crate::joining::push_joined;
-use crate::parts::{Parts, parts_read};
+use crate::parts::parts_read;
 use depot_cell::{Cell, Memory, Row, Rows, copy_row};
+use partition_map::Parts;
 use std::alloc::Global;
 use table_desc::{DRow, Delivery, Desc, END, Key, Kind, Src, Table, Width};
 

@@ -11,11 +11,12 @@ ghost use Rattle.depot_cli.specs.Orders.{number_below, order_of, order_of_words,
 ghost use Rattle.depot_cli.specs.Orders.{sized};
 
 use depot_cell::{Memory, read_number};
+use partition_map::parts_of_span;
 use std::alloc::Global;
 use table_desc::{
     END, ServedDesc, Width, begins_comment, find_feed, find_table, is_word, words_of,
 };
-use view_meaning::{Item, Mark, parts_of_span};
+use view_meaning::{Item, Mark};
 
 /// The most bytes of a body.
 const BODY_LIMIT: u64 = 16_777_216;
