@@ -1,9 +1,9 @@
 //! Values, versions and partitions, worked by hand.
 
-ghost use Rattle.std.specs.Prelude.{pos, ◌≡◌, ◌≤◌, ◌∷◌, [], IfOk, length};
+ghost use Rattle.std.specs.Prelude.{◌≡◌, ◌≤◌, ◌∷◌, [], IfOk, length};
 ghost use Rattle.table_desc.specs.Kinds.{kind_of};
 ghost use Rattle.partition_map.specs.Time.{IsWidth};
-ghost use Rattle.table_desc.specs.Sources.{HasAlignedSources, HasEarlierSources, kind_sources};
+ghost use Rattle.table_desc.specs.Sources.{HasEarlierSources, HasFittingSources, kind_sources};
 
 use depot_cell::{Cell, Op, Row, Str};
 use partition_map::{Parts, parts_of_span};
@@ -11,6 +11,9 @@ use std::alloc::Global;
 use std::test::Fail;
 use table_desc::{Cond, DRow, Delivery, Desc, END, Key, Kind, Span, Src, Table, Width};
 use view_meaning::{plain_value, plain_version, reached_keys};
+
+/// The span of just a partition's own ticks.
+const OWN_TICKS: Span = Span { lo: 0, hi: 0 };
 
 /// A table in partitions of so many ticks. It names no columns, since no call here looks at them.
 fn table(alloc: Global, ticks: u64, kind: Kind) -> Result<Table, Fail>
@@ -28,18 +31,18 @@ fn table(alloc: Global, ticks: u64, kind: Kind) -> Result<Table, Fail>
 
 /// A source that is read over just the ticks of the view's partition.
 fn source(table: u16) -> Src
-    ensures exact { result ≡ record { table = table; span = record { lo = pos 0; hi = pos 0 } } }
+    ensures exact { result ≡ record { table = table; span = OWN_TICKS } }
 {
     Src {
         table,
-        span: Span { lo: 0, hi: 0 },
+        span: OWN_TICKS,
     }
 }
 
-/// The rows of the first table with an amount from 5 on: the amounts, with their days.
-fn large(alloc: Global) -> Result<Kind, Fail>
-    ensures reads { IfOk result (λ kind. kind_sources (kind_of kind)
-        ≡ record { table = 0; span = record { lo = pos 0; hi = pos 0 } } ∷ []) }
+/// The rows of the first table over a span, with an amount from 5 on: the amounts, with their days.
+fn large(alloc: Global, span: Span) -> Result<Kind, Fail>
+    ensures reads { IfOk result (λ kind.
+        kind_sources (kind_of kind) ≡ record { table = 0; span = span } ∷ []) }
 {
     let five = Cond {
         column: 1,
@@ -47,7 +50,7 @@ fn large(alloc: Global) -> Result<Kind, Fail>
         value: Cell::Int(5),
     };
     Ok(Kind::Filter {
-        src: source(0),
+        src: Src { table: 0, span },
         conds: vec![in alloc; five]?,
         keep: vec![in alloc; 1, 0]?,
     })
@@ -59,7 +62,7 @@ fn large(alloc: Global) -> Result<Kind, Fail>
 fn views(alloc: Global) -> Result<Desc, Fail>
     ensures few { IfOk result (λ desc. length desc.tables ≤ 65_536) }
     ensures earlier { IfOk result HasEarlierSources }
-    ensures aligned { IfOk result HasAlignedSources }
+    ensures fits { IfOk result HasFittingSources }
 {
     let group = Kind::Group {
         src: source(2),
@@ -74,9 +77,26 @@ fn views(alloc: Global) -> Result<Desc, Fail>
     let tables = vec![in alloc;
         table(alloc, 10, Kind::Raw { feed: 0, time: 0 })?,
         table(alloc, 5, Kind::Raw { feed: 0, time: 0 })?,
-        table(alloc, 20, large(alloc)?)?,
+        table(alloc, 20, large(alloc, OWN_TICKS)?)?,
         table(alloc, 20, group)?,
         table(alloc, 60, join)?,
+    ]?;
+    Ok(Desc {
+        feeds: Vec::new(alloc),
+        tables,
+    })
+}
+
+/// A raw table in partitions of 10 ticks, and a filter of it in partitions of 20, that reads from 20
+/// ticks before its own partition up to 10 ticks after it.
+fn windows(alloc: Global) -> Result<Desc, Fail>
+    ensures few { IfOk result (λ desc. length desc.tables ≤ 65_536) }
+    ensures earlier { IfOk result HasEarlierSources }
+    ensures fits { IfOk result HasFittingSources }
+{
+    let tables = vec![in alloc;
+        table(alloc, 10, Kind::Raw { feed: 0, time: 0 })?,
+        table(alloc, 20, large(alloc, Span { lo: -20, hi: 10 })?)?,
     ]?;
     Ok(Desc {
         feeds: Vec::new(alloc),
@@ -174,6 +194,41 @@ fn deliveries_reach_what_stands_above_their_rows(rt: HostRuntime) -> Result<(), 
         for (key, (table, part)) in reached.iter().zip(want) {
             assert_eq!(rt; (key.table, key.part), (*table, *part));
         }
+    }
+    Ok(())
+}
+
+#[test]
+fn views_reach_and_read_ticks_around_their_own(rt: HostRuntime) -> Result<(), Fail> {
+    let alloc = rt.alloc();
+    let desc = windows(alloc)?;
+    // END is 54,975,581,388 times 20, and 16. The number after the last partition's would read the
+    // last ticks too, but it is that of no partition.
+    let last: u64 = 54_975_581_388;
+    let of_first: [u64; 2] = [0, 1];
+    let of_one: [u64; 3] = [5, 6, 7];
+    let of_last: [u64; 1] = [last];
+    for (day, want) in [
+        (5, &of_first[..]),
+        (121, &of_one[..]),
+        (1_099_511_627_775, &of_last[..]),
+    ] {
+        let deliveries = vec![in alloc; delivery(alloc, &[(0, day, 0)])?]?;
+        let reached = reached_keys(alloc, &desc, &deliveries)?;
+        assert!(rt; reached.len() == want.len());
+        for (key, part) in reached.iter().zip(want) {
+            assert!(rt; key.table == 1 && key.part == *part);
+        }
+    }
+    let accepted = vec![in alloc;
+        delivery(alloc, &[(0, 100, 5), (0, 149, 6), (0, 99, 7), (0, 150, 8)])?,
+    ]?;
+    let value = plain_value(alloc, &desc, &accepted, Key { table: 1, part: 6 })?;
+    let want: [[i64; 2]; 2] = [[5, 100], [6, 149]];
+    assert!(rt; value.rows().len() == want.len());
+    for (row, [amount, day]) in value.rows().iter().zip(&want) {
+        let cells = [Cell::Int(*amount), Cell::Int(*day)];
+        assert!(rt; row.cells() == &cells[..]);
     }
     Ok(())
 }

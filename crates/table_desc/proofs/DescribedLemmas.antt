@@ -24,7 +24,7 @@ IsServed-with_feed desc name new served declared =
       tables = served.tables;
       columns = served.columns;
       earlier = served.earlier;
-      aligned = served.aligned;
+      fits = served.fits;
     })
 
 -- so is one with one table more that may be added
@@ -89,5 +89,5 @@ described_is_served lines = IsServed-fold nothing_described lines (record {
   tables = omega arith;
   columns = All-nil _;
   earlier = λ number table there. absurd cc;
-  aligned = λ number table there. absurd cc;
+  fits = λ number table there. absurd cc;
 })

@@ -1,21 +1,26 @@
 -- A description stays served if one table is added: `IsServed-push`. The tables that lines say may
 -- be added: `IsNextTable-read_table`.
-use Rattle.std.proofs.Common.{◌≡◌, ℕ, ◌<◌, ◌≤◌, ◌++◌, List, [], ◌∷◌, Option, Some, None, Bool}
+use Rattle.std.proofs.Common.{◌≡◌, ℕ, ◌*◌, ◌<◌, ◌≤◌, ◌++◌, List, [], ◌∷◌, Option, Some, None, Bool}
 use Rattle.std.proofs.Common.{true, false, length, subst, ap, refl, arith, rules, tests}
 use Rattle.std.specs.Prelude.{All, slice_get, option_and_then, option_map, if◌then◌else◌, not, pos}
-use Rattle.std.specs.Prelude.{codes}
+use Rattle.std.specs.Prelude.{codes, ◌%◌, ◌&&◌, nat_le}
 use Rattle.std.specs.Str.{bytes_eq}
 use Rattle.std.proofs.lemmas.List.{length-append}
 use Rattle.std.proofs.lemmas.List.Elements.{All-cons, All-nil, All-push}
-use Rattle.std.proofs.lemmas.Bool.{eqb-true}
+use Rattle.std.proofs.lemmas.Bool.{and_parts, eqb-true, leb-true}
+use Rattle.std.proofs.lemmas.Int.{ints}
 use Rattle.std.proofs.lemmas.Option.{cond_some, option_and_then_some, same_Some, slice_get_within}
+use Rattle.std.proofs.Math.Nat.{zero-mod}
+use Rattle.depot_cell.specs.Numbers.{number_of}
+use Rattle.partition_map.specs.Partitions.{SpanFits}
+use Rattle.partition_map.specs.Time.{END}
 use Rattle.table_desc.proofs.ListLemmas.{each_place-push, if-some, slice_get-push}
 use Rattle.table_desc.specs.KindValues.{Raw}
 use Rattle.table_desc.specs.declared.table.Column.{Column}
 use Rattle.table_desc.specs.declared.view.Src.{Src}
 use Rattle.table_desc.specs.Descriptions.{DescOf}
 use Rattle.table_desc.specs.Tables.{TableOf}
-use Rattle.table_desc.specs.Sources.{HasAlignedSources, IsAligned, HasEarlierSources, kind_sources}
+use Rattle.table_desc.specs.Sources.{HasEarlierSources, HasFittingSources, kind_sources}
 use Rattle.table_desc.specs.Sources.{table_width, width_of}
 use Rattle.table_desc.specs.Served.{IsNextTable, IsServed}
 use Rattle.table_desc.specs.Names.{find_feed, find_table}
@@ -23,7 +28,7 @@ use Rattle.table_desc.specs.Columns.{are_columns, columns_of, kept_columns, find
 use Rattle.table_desc.specs.RawTables.{are_raw_keywords, read_raw_table, raw_table, read_width}
 use Rattle.table_desc.specs.Selections.{SelectionOf, read_selection}
 use Rattle.table_desc.specs.Filters.{filter_over, read_filter, filter_table, is_filter}
-use Rattle.table_desc.specs.Filters.{is_multiple}
+use Rattle.table_desc.specs.Filters.{is_multiple, reads_few}
 use Rattle.table_desc.specs.Grammar.{read_table}
 
 -- the width of an earlier table stays
@@ -33,14 +38,14 @@ table_width-push : (desc : DescOf) (table : TableOf) (number : ℕ) → number <
 table_width-push desc table number within =
     ap width_of (slice_get-push desc.tables table number within)
 
--- sources stay aligned if one more table is added
-IsAligned-push : (desc : DescOf) (table : TableOf) (width : ℕ) (sources : List Src)
+-- spans go on fitting if one more table is added
+SpanFits-push : (desc : DescOf) (table : TableOf) (width : ℕ) (sources : List Src)
     → All (λ (src : Src). src.table < length desc.tables) sources
-    → All (λ (src : Src). IsAligned width (table_width desc src.table) src.span) sources
-    → All (λ (src : Src). IsAligned width
+    → All (λ (src : Src). SpanFits width (table_width desc src.table) src.span) sources
+    → All (λ (src : Src). SpanFits width
     (table_width (record desc { tables = desc.tables ++ table ∷ [] }) src.table) src.span) sources
-IsAligned-push desc table width sources earlier aligned = λ index default within.
-    rw (table_width-push desc table _ (earlier index default within)) (aligned index default within)
+SpanFits-push desc table width sources earlier fits = λ index default within.
+    rw (table_width-push desc table _ (earlier index default within)) (fits index default within)
 
 -- the sources of a table that is there are there
 earlier-le : (desc : DescOf) (number : ℕ) (table : TableOf) → HasEarlierSources desc
@@ -50,16 +55,16 @@ earlier-le desc number table earlier there =
     let within = slice_get_within desc.tables number table there in
     λ index default inside. omega (arith, within, earlier number table there index default inside)
 
--- each source of each view stays aligned
-HasAlignedSources-push : (desc : DescOf) (table : TableOf) → IsServed desc → IsNextTable desc table
-    → HasAlignedSources (record desc { tables = desc.tables ++ table ∷ [] })
-HasAlignedSources-push desc table served next = each_place-push
-    (λ (number : ℕ) (other : TableOf). All (λ (src : Src). IsAligned other.width (table_width
+-- so do those of each source of each view
+HasFittingSources-push : (desc : DescOf) (table : TableOf) → IsServed desc → IsNextTable desc table
+    → HasFittingSources (record desc { tables = desc.tables ++ table ∷ [] })
+HasFittingSources-push desc table served next = each_place-push
+    (λ (number : ℕ) (other : TableOf). All (λ (src : Src). SpanFits other.width (table_width
     (record desc { tables = desc.tables ++ table ∷ [] }) src.table) src.span)
     (kind_sources other.kind)) desc.tables table
-    (λ number other there. IsAligned-push desc table other.width (kind_sources other.kind)
-    (earlier-le desc number other served.earlier there) (served.aligned number other there))
-    (IsAligned-push desc table table.width (kind_sources table.kind) next.earlier next.aligned)
+    (λ number other there. SpanFits-push desc table other.width (kind_sources other.kind)
+    (earlier-le desc number other served.earlier there) (served.fits number other there))
+    (SpanFits-push desc table table.width (kind_sources table.kind) next.earlier next.fits)
 
 -- one more table keeps a description served
 pub IsServed-push : (desc : DescOf) (table : TableOf) → IsServed desc → length desc.tables < 64
@@ -73,7 +78,7 @@ IsServed-push desc table served room next = record {
   earlier = each_place-push (λ (number : ℕ) (table : TableOf).
       All (λ (src : Src). src.table < number) (kind_sources table.kind)) desc.tables table
       served.earlier next.earlier;
-  aligned = HasAlignedSources-push desc table served next;
+  fits = HasFittingSources-push desc table served next;
 }
 
 -- so does a push that may be refused
@@ -105,26 +110,50 @@ IsNextTable-raw_table desc name feed width time columns table said =
         → IsNextTable desc table
     made true (Some feed) (Some width) (Some time) few said =
         subst (IsNextTable desc) (same_Some _ _ said)
-        (record { columns = few refl; earlier = All-nil _; aligned = All-nil _ })
+        (record { columns = few refl; earlier = All-nil _; fits = All-nil _ })
     made _ _ _ _ few said = absurd cc
+
+-- a span of just a partition's own ticks fits if the source's width divides the view's, at most
+-- 1,024 times
+own-fits : (width source_width : ℕ) → 1 ≤ width → width % source_width ≡ 0
+    → width ≤ 1024 * source_width
+    → SpanFits width source_width (record { lo = pos 0; hi = pos 0 })
+own-fits width source_width some whole few = record {
+  whole = whole;
+  whole_lo = zero-mod source_width;
+  whole_hi = zero-mod source_width;
+  in_order = omega (arith, ints);
+  few = omega (arith, ints);
+}
+
+-- a width that a word says has a tick
+read_width-some : (word : List ℕ) (width : ℕ) → read_width word ≡ Some width → 1 ≤ width
+read_width-some word width said =
+    option_and_then_some
+    (λ ticks. if nat_le 1 ticks && nat_le ticks END then Some ticks else None) (number_of word)
+    width said (λ ticks _ made.
+    let tests = cond_some (nat_le 1 ticks && nat_le ticks END) ticks width made in
+    let both = and_parts (nat_le 1 ticks) (nat_le ticks END) tests.0 in
+    omega (arith, leb-true 1 ticks both.0, tests.1))
 
 -- a filter over a table that is there may be added
 IsNextTable-filter_table : (desc : DescOf) (name : List ℕ) (width source : ℕ) (table : TableOf)
     (selection : SelectionOf) (filter : TableOf)
-    → slice_get desc.tables source ≡ Some table
+    → slice_get desc.tables source ≡ Some table → 1 ≤ width
     → filter_table name width source table selection ≡ Some filter → IsNextTable desc filter
-IsNextTable-filter_table desc name width source table selection filter there said =
+IsNextTable-filter_table desc name width source table selection filter there some said =
     let made = cond_some _ _ _ said in
     let kept = kept_columns table.columns selection.keep in
     let fit : are_columns kept ≡ true = search (rules, made.0) in
     let whole : is_multiple width table.width ≡ true = search (rules, made.0) in
-    let own : IsAligned width (table_width desc source) (record { lo = pos 0; hi = pos 0 }) =
-    record { lo = refl; hi = refl; whole = rw there (eqb-true _ _ whole) } in
+    let few : reads_few width table.width ≡ true = search (rules, made.0) in
+    let own : SpanFits width (table_width desc source) (record { lo = pos 0; hi = pos 0 }) =
+    rw there (own-fits width table.width some (eqb-true _ _ whole) (leb-true _ _ few)) in
     subst (IsNextTable desc) made.1 (record {
       columns = are_columns-le _ fit;
       earlier = All-cons (λ (src : Src). src.table < length desc.tables) _ []
           (slice_get_within desc.tables source table there) (All-nil _);
-      aligned = All-cons (λ (src : Src). IsAligned width (table_width desc src.table) src.span)
+      fits = All-cons (λ (src : Src). SpanFits width (table_width desc src.table) src.span)
           _ [] own (All-nil _);
     })
 
@@ -148,7 +177,8 @@ IsNextTable-filter_over desc name ticks words source None filter there said = ab
 IsNextTable-filter_over desc name ticks words source (Some table) filter there said =
     option_and_then_some _ (read_width ticks) filter said (λ width wide made.
     option_and_then_some _ (read_selection table.columns words) filter made (λ selection read made.
-    IsNextTable-filter_table desc name width source table selection filter there made))
+    IsNextTable-filter_table desc name width source table selection filter there
+    (read_width-some ticks width wide) made))
 
 -- what words say after `view` and a name may be added
 IsNextTable-read_filter : (desc : DescOf) (name : List ℕ) (words : List (List ℕ)) (filter : TableOf)

@@ -1,7 +1,6 @@
 -- What a description says of the sources of its views.
-use Rattle.std.specs.Prelude.{ℕ, pos, ◌<◌, ◌≡◌, ◌%◌, List, [], ◌∷◌, Option, Some, None, slice_get}
-use Rattle.std.specs.Prelude.{All}
-use Rattle.partition_map.specs.declared.time.Span.{Span}
+use Rattle.std.specs.Prelude.{ℕ, ◌<◌, ◌≡◌, List, [], ◌∷◌, Option, Some, None, slice_get, All}
+use Rattle.partition_map.specs.Partitions.{SpanFits}
 use Rattle.table_desc.specs.declared.view.Src.{Src}
 use Rattle.table_desc.specs.Descriptions.{DescOf}
 use Rattle.table_desc.specs.Tables.{TableOf}
@@ -28,14 +27,8 @@ abbrev pub HasEarlierSources : DescOf → Type 0
 HasEarlierSources desc = (number : ℕ) (table : TableOf) → slice_get desc.tables number ≡ Some table
     → All (λ (src : Src). src.table < number) (kind_sources table.kind)
 
--- a source is read over just the ticks of the view's partition, and no partition of it is cut
-pub record IsAligned (width source_width : ℕ) (span : Span) : Type 0 where
-  pub lo : span.lo ≡ pos 0
-  pub hi : span.hi ≡ pos 0
-  pub whole : width % source_width ≡ 0
-
--- so is each source of each view
-abbrev pub HasAlignedSources : DescOf → Type 0
-HasAlignedSources desc = (number : ℕ) (table : TableOf) → slice_get desc.tables number ≡ Some table
-    → All (λ (src : Src). IsAligned table.width (table_width desc src.table) src.span)
+-- each source of each view is read over a span that fits: whole partitions of it, at most 1,024
+abbrev pub HasFittingSources : DescOf → Type 0
+HasFittingSources desc = (number : ℕ) (table : TableOf) → slice_get desc.tables number ≡ Some table
+    → All (λ (src : Src). SpanFits table.width (table_width desc src.table) src.span)
     (kind_sources table.kind)

@@ -6,7 +6,7 @@ ghost use Rattle.table_desc.specs.Served.{IsServed};
 use crate::{Desc, Table};
 
 /// A description that is served, as [`crate::Draft`] makes it of lines: at most one feed, at most
-/// 64 tables of at most 16 columns, and each view reads just its own ticks of earlier tables.
+/// 64 tables of at most 16 columns, and each view reads earlier tables, over spans that fit.
 #[derive(Debug, Drop)]
 pub struct ServedDesc {
     pub desc: Desc,

@@ -1,11 +1,11 @@
--- Facts on lists of anything, and on runs of numbers, that std does not have. Take
--- `filter-range_with_len` if a test passes exactly on a run of numbers.
+-- Facts on lists of anything, and on runs of numbers, that std does not have.
 use Rattle.std.proofs.Common.{◌≡◌, ◌∙◌, ℕ, suc, ◌+◌, ◌<◌, List, [], ◌∷◌, ◌++◌}
 use Rattle.std.proofs.Common.{length, take, drop, get_or, map, cond, refl, sym, ap, arith}
 use Rattle.std.specs.Prelude.{Bool, true, false, not, ◌&&◌, ◌||◌, ◌==◌, All, flat_map, fold, nat_eq}
 use Rattle.std.specs.Prelude.{if◌then◌else◌}
 use Rattle.std.specs.List.{AllPairs, filter, list_all, list_any, range_with_len}
 use Rattle.std.specs.Cmp.Lexicographic.{pointwise}
+use Rattle.std.proofs.Math.Bool.{and-false, and-true}
 use Rattle.std.proofs.Math.Seq.{take-append_seam, drop-append_seam}
 use Rattle.std.proofs.lemmas.Bool.{or_parts, eq-eqb}
 use Rattle.std.proofs.lemmas.List.{length-take, take-append-drop, take-append-le}
@@ -13,7 +13,7 @@ use Rattle.std.proofs.lemmas.List.{get_or-map, get_or_append_left, get_or_at}
 use Rattle.std.proofs.lemmas.List.{length-append}
 use Rattle.std.proofs.lemmas.List.Elements.{All-nil, All-cons, All-head, All-tail, All-map}
 use Rattle.std.proofs.lemmas.List.Elements.{All-append, All-same, All-take, All-drop, filter-append}
-use Rattle.std.proofs.lemmas.List.Folds.{list_any-append, list_any_at}
+use Rattle.std.proofs.lemmas.List.Folds.{list_any-append, list_any_at, list_any_none}
 use Rattle.std.proofs.lemmas.List.FromFn.{length-range_with_len, get_or-range_with_len}
 use Rattle.std.proofs.lemmas.List.Kept.{AllPairs-cons}
 use Rattle.view_meaning.specs.Growth.{BeginsWith}
@@ -79,6 +79,18 @@ list_any-flat_map test f [] = refl
 list_any-flat_map test f (x ∷ xs) =
     list_any-append test (f x) (flat_map f xs)
     ∙ ap (λ (rest : Bool). list_any test (f x) || rest) (list_any-flat_map test f xs)
+
+-- a test that asks something else besides finds an element if that is so
+pub list_any-and : {X : Type 0} (test : X → Bool) (also : Bool) (xs : List X)
+    → list_any (λ x. test x && also) xs ≡ (list_any test xs && also)
+list_any-and test true xs =
+    list_any-agree (λ x. test x && true) test xs
+    (λ index default _. and-true (test (get_or xs index default)))
+    ∙ sym (and-true (list_any test xs))
+list_any-and test false xs =
+    list_any_none (λ x. test x && false) xs
+    (λ index default _. and-false (test (get_or xs index default)))
+    ∙ sym (and-false (list_any test xs))
 
 -- what is true of all that is made of each element is true of all that is joined
 pub All-flat_map : {X Y : Type 0} (P : Y → Type 0) (f : X → List Y) (xs : List X)

@@ -1,11 +1,10 @@
 -- Which numbers a list has. Take `rising-same` to show that two rising lists are the same.
-use Rattle.std.proofs.Common.{◌≡◌, ◌∙◌, ℕ, suc, zero, ◌+◌, ◌<◌, ◌≤◌, Bool, true, false, List, []}
+use Rattle.std.proofs.Common.{◌≡◌, ◌∙◌, ℕ, ◌<◌, ◌≤◌, true, false, List, []}
 use Rattle.std.proofs.Common.{◌∷◌, get_or, refl, sym, ⊎_elim, arith, eqb}
-use Rattle.std.specs.Prelude.{◌&&◌, nat_eq, nat_lt, nat_le, All}
-use Rattle.std.specs.List.{filter, list_any, dedup, range_with_len, AllPairs, Contains}
+use Rattle.std.specs.Prelude.{nat_eq, All}
+use Rattle.std.specs.List.{list_any, dedup, AllPairs, Contains}
 use Rattle.std.proofs.lemmas.Bool.{both_ways, cases_eq, cases_lt, eqb-true, eq-eqb, ne_eqb, or_left}
 use Rattle.std.proofs.lemmas.Bool.{or_from, false≢true}
-use Rattle.std.proofs.lemmas.Bool.Decides.{nat_tests}
 use Rattle.std.proofs.lemmas.List.Folds.{Any-from_list_any, list_any_at, list_any_none}
 use Rattle.std.proofs.lemmas.List.Kept.{Contains-dedup_nat, Contains-from_dedup}
 use Rattle.std.proofs.lemmas.Map.Views.{Contains-from_any, list_any-from_Contains}

@@ -1,34 +1,32 @@
 -- Lists of partitions' numbers, one for each table, as the program that computes reached partitions
 -- fills them.
-use Rattle.std.proofs.Common.{◌≡◌, ◌∙◌, ℕ, ◌+◌, ◌*◌, ◌/◌, ◌<◌, ◌≤◌, List, [], ◌++◌, length, get_or}
-use Rattle.std.proofs.Common.{sym, ap, map, arith}
-use Rattle.std.specs.Prelude.{Bool, true, min, max, ◌||◌, ◌&&◌, nat_eq, nat_lt, nat_le, All, Vec}
+use Rattle.std.proofs.Common.{◌≡◌, ◌∙◌, ℕ, ◌<◌, List, [], ◌∷◌, ◌++◌, length, get_or, refl, sym, ap}
+use Rattle.std.specs.Prelude.{Bool, true, false, ◌||◌, ◌&&◌, nat_eq, All, Vec, flat_map}
+use Rattle.std.specs.List.{list_any}
 use Rattle.std.specs.declared.alloc.Global.{Global}
-use Rattle.std.proofs.lemmas.List.{get_or-map, length-map}
-use Rattle.std.specs.List.{list_any, range_with_len}
-use Rattle.std.proofs.lemmas.Bool.{and_parts, and_from, ltb-true, lt-ltb, le-leb}
+use Rattle.std.proofs.lemmas.List.{append-nil, get_or-map, length-map}
 use Rattle.std.proofs.lemmas.List.Elements.{Contains-get_or}
 use Rattle.std.proofs.lemmas.List.Folds.{list_any-append}
-use Rattle.std.proofs.Math.Nat.{le-mul_of_pos_right}
-use Rattle.partition_map.proofs.NumberLemmas.{has-parts_met}
+use Rattle.std.proofs.Math.Bool.{and-true}
 use Rattle.partition_map.specs.declared.time.Span.{Span}
+use Rattle.partition_map.specs.Time.{END}
+use Rattle.partition_map.specs.Partitions.{start_of, is_met, all_parts, has}
+use Rattle.partition_map.specs.Partitions.{source_parts, dependent_parts}
+use Rattle.partition_map.proofs.DependentLemmas.{mutual_parts}
+use Rattle.partition_map.proofs.NumberLemmas.{has-filter, has-parts_met}
+use Rattle.table_desc.specs.declared.table.Key.{Key}
 use Rattle.table_desc.specs.declared.view.Src.{Src}
 use Rattle.table_desc.specs.Deliveries.{DeliveryOf}
 use Rattle.table_desc.specs.Descriptions.{DescOf}
-use Rattle.table_desc.specs.Sources.{table_width, IsAligned}
-use Rattle.partition_map.specs.Time.{END}
-use Rattle.partition_map.specs.Partitions.{start_of, end_of, is_met, parts_met, source_parts}
+use Rattle.table_desc.specs.Sources.{table_width}
 use Rattle.view_meaning.specs.Partitions.{keys_read}
 use Rattle.view_meaning.specs.Reached.{brings}
-use Rattle.partition_map.specs.Partitions.{has}
 use Rattle.view_meaning.specs.PartLists.{AreBrought, AreInTime, Gains, is_listed, key_of}
-use Rattle.view_meaning.specs.PartLists.{lists_of, parts_at}
-use Rattle.view_meaning.proofs.ListLemmas.{list_any-agree, list_any-map}
-use Rattle.partition_map.proofs.BoolLemmas.{same-answer}
-use Rattle.partition_map.proofs.NumberLemmas.{has-filter, has-range_with_len}
-use Rattle.view_meaning.proofs.NumberLemmas.{has-Contains}
-use Rattle.view_meaning.proofs.NumberLemmas.{list_any-has}
-use Rattle.view_meaning.proofs.PartitionLemmas.{is_met-div}
+use Rattle.view_meaning.specs.PartLists.{lists_of, parts_at, reads_listed}
+use Rattle.view_meaning.proofs.BoolLemmas.{or-or_and}
+use Rattle.view_meaning.proofs.ListLemmas.{list_any-agree, list_any-and, list_any-flat_map}
+use Rattle.view_meaning.proofs.ListLemmas.{list_any-map}
+use Rattle.view_meaning.proofs.NumberLemmas.{has-Contains, list_any-has}
 
 -- there are as many lists as vectors
 pub length-lists_of : (lists : List (Vec ℕ Global)) → length (lists_of lists) ≡ length lists
@@ -52,18 +50,6 @@ AreBrought-at desc deliveries brought table parts within read exact part =
     (sym (parts_at-lists_of brought table parts within read))
     ∙ exact table part
 
--- of a source that is aligned a partition reads those that share a tick with it
-pub source_parts-aligned : (width source_width part : ℕ) (span : Span)
-    → IsAligned width source_width span
-    → source_parts width source_width span part
-    ≡ parts_met source_width (part * width) (min END ((part + 1) * width))
-source_parts-aligned width source_width part span aligned =
-    let start : part * width + 0 ≡ part * width = omega arith in
-    let next : (part + 1) * width + 0 ≡ (part + 1) * width = omega arith in
-    rw (aligned.lo, aligned.hi)
-    (ap (λ (from : ℕ). parts_met source_width from (min END ((part + 1) * width + 0))) start
-    ∙ ap (λ (to : ℕ). parts_met source_width (part * width) (min END to)) next)
-
 -- each number listed of a table is that of a partition that begins in time
 pub All-in_time : (desc : DescOf) (lists : List (List ℕ)) (table : ℕ) → AreInTime desc lists
     → All (λ part. start_of (table_width desc table) part < END) (parts_at lists table)
@@ -73,42 +59,86 @@ All-in_time desc lists table in_time index default within =
     in_time (key_of table part)
     (has-Contains listed part (Contains-get_or listed index default within))
 
--- the wider partitions that listed ones lie in are those that read one of these
-list_any-keys_read : (desc : DescOf) (width part : ℕ) (src : Src) (lists : List (List ℕ))
-    → 1 ≤ width → 1 ≤ table_width desc src.table → AreInTime desc lists
-    → IsAligned width (table_width desc src.table) src.span
-    → has (map (λ source. start_of (table_width desc src.table) source / width)
-    (parts_at lists src.table)) part
-    ≡ list_any (is_listed lists) (keys_read desc width part src)
-list_any-keys_read desc width part src lists some some_too in_time aligned =
-    let source_width = table_width desc src.table in
-    let listed = parts_at lists src.table in
-    let wider = λ (source : ℕ). start_of source_width source / width in
-    let read = parts_met source_width (part * width) (min END ((part + 1) * width)) in
-    let each : All (λ source. nat_eq part (wider source) ≡ has read source) listed =
-    λ index default within.
-    let source = get_or listed index default in
-    let begins = All-in_time desc lists src.table in_time index default within in
-    sym (has-parts_met source_width (part * width) (min END ((part + 1) * width)) source
-    ∙ is_met-div source_width width part source some_too some aligned.whole begins) in
-    list_any-map (nat_eq part) wider listed
-    ∙ list_any-agree (λ source. nat_eq part (wider source)) (has read) listed each
-    ∙ list_any-has read listed
-    ∙ ap (λ (sources : List ℕ). list_any (has listed) sources)
-    (sym (source_parts-aligned width source_width part src.span aligned))
-    ∙ sym (list_any-map (is_listed lists) (key_of src.table)
-    (source_parts width source_width src.span part))
+-- a partition is among all of a table exactly if it shares a tick with time
+pub has-all_parts : (width part : ℕ) → has (all_parts width) part ≡ is_met width 0 END part
+unfolding all_parts
+has-all_parts width part = has-parts_met width 0 END part
 
--- a list gains the partitions that read listed ones of a source, by the numbers put at its end
-pub Gains-keys_read : (desc : DescOf) (width : ℕ) (src : Src) (lists : List (List ℕ))
-    (old new : List ℕ) → 1 ≤ width → 1 ≤ table_width desc src.table → AreInTime desc lists
-    → IsAligned width (table_width desc src.table) src.span
-    → new ≡ old ++ map (λ source. start_of (table_width desc src.table) source / width)
+-- a number is among the dependents of a source's partition exactly if it is that of a partition
+-- which has that one among its sources: sources and dependents mirror each other
+pub has-dependent_parts : (width source_width : ℕ) (span : Span) (source part : ℕ)
+    → has (dependent_parts width source_width span source) part
+    ≡ (has (source_parts width source_width span part) source && is_met width 0 END part)
+has-dependent_parts width source_width span source part = at_part (is_met width 0 END part) refl
+  where
+    reads : ℕ → Bool
+    reads part = has (source_parts width source_width span part) source
+
+    at_part : (is_part : Bool) → is_met width 0 END part ≡ is_part
+        → has (dependent_parts width source_width span source) part ≡ (reads part && is_part)
+    at_part true met =
+        sym (and-true (reads part) ∙ mutual_parts width source_width span part source met)
+    at_part false met =
+        has-filter reads (all_parts width) part
+        ∙ ap (λ (there : Bool). reads part && there) (has-all_parts width part ∙ met)
+
+-- a partition reads a listed one of a source exactly if a listed one is among its sources
+list_any-keys_read : (desc : DescOf) (width part : ℕ) (src : Src) (lists : List (List ℕ))
+    → list_any (has (source_parts width (table_width desc src.table) src.span part))
     (parts_at lists src.table)
-    → Gains (λ part. list_any (is_listed lists) (keys_read desc width part src)) old new
-Gains-keys_read desc width src lists old new some some_too in_time aligned pushed part =
-    let wider = λ (source : ℕ). start_of (table_width desc src.table) source / width in
+    ≡ list_any (is_listed lists) (keys_read desc width part src)
+list_any-keys_read desc width part src lists =
+    let read = source_parts width (table_width desc src.table) src.span part in
+    list_any-has read (parts_at lists src.table)
+    ∙ sym (list_any-map (is_listed lists) (key_of src.table) read)
+
+-- the dependents of listed partitions of a source are the partitions that read a listed one
+has-dependents : (desc : DescOf) (width part : ℕ) (src : Src) (lists : List (List ℕ))
+    → has (flat_map (dependent_parts width (table_width desc src.table) src.span)
+    (parts_at lists src.table)) part
+    ≡ reads_listed desc lists width (src ∷ []) part
+has-dependents desc width part src lists =
+    let met = is_met width 0 END part in
+    let listed = parts_at lists src.table in
+    let source_width = table_width desc src.table in
+    let dependents = dependent_parts width source_width src.span in
+    let read = source_parts width source_width src.span part in
+    list_any-flat_map (nat_eq part) dependents listed
+    ∙ list_any-agree (λ source. has (dependents source) part) (λ source. has read source && met)
+    listed (λ index default _.
+    has-dependent_parts width source_width src.span (get_or listed index default) part)
+    ∙ list_any-and (has read) met listed
+    ∙ ap (λ (any : Bool). any && met) (list_any-keys_read desc width part src lists)
+    ∙ ap (λ (keys : List Key). list_any (is_listed lists) keys && met)
+    (sym (append-nil (keys_read desc width part src)))
+
+-- a list gains the partitions that read listed ones of a source, by their numbers put at its end
+pub Gains-dependents : (desc : DescOf) (width : ℕ) (src : Src) (lists : List (List ℕ))
+    (old new : List ℕ)
+    → new ≡ old ++ flat_map (dependent_parts width (table_width desc src.table) src.span)
+    (parts_at lists src.table)
+    → Gains (reads_listed desc lists width (src ∷ [])) old new
+Gains-dependents desc width src lists old new pushed part =
+    let dependents = dependent_parts width (table_width desc src.table) src.span in
     ap (λ (parts : List ℕ). has parts part) pushed
-    ∙ list_any-append (nat_eq part) old (map wider (parts_at lists src.table))
-    ∙ ap (λ (read : Bool). has old part || read)
-    (list_any-keys_read desc width part src lists some some_too in_time aligned)
+    ∙ list_any-append (nat_eq part) old (flat_map dependents (parts_at lists src.table))
+    ∙ ap (λ (read : Bool). has old part || read) (has-dependents desc width part src lists)
+
+-- a list that gains those of one source, then those of another, gains those of both
+pub Gains-both : (desc : DescOf) (lists : List (List ℕ)) (width : ℕ) (left right : Src)
+    (old between new : List ℕ)
+    → Gains (reads_listed desc lists width (left ∷ [])) old between
+    → Gains (reads_listed desc lists width (right ∷ [])) between new
+    → Gains (reads_listed desc lists width (left ∷ right ∷ [])) old new
+Gains-both desc lists width left right old between new first second part =
+    let met = is_met width 0 END part in
+    let keys = keys_read desc width part left in
+    let more = flat_map (keys_read desc width part) (right ∷ []) in
+    let any = list_any (is_listed lists) in
+    second part
+    ∙ ap (λ (had : Bool). had || (any more && met))
+    (first part
+    ∙ ap (λ (keys : List Key). has old part || (any keys && met)) (append-nil keys))
+    ∙ or-or_and (has old part) (any keys) (any more) met
+    ∙ ap (λ (read : Bool). has old part || (read && met))
+    (sym (list_any-append (is_listed lists) keys more))

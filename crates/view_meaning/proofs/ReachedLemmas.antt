@@ -1,33 +1,25 @@
 -- Which partitions deliveries reach: `is_reached-step` says it by the sources of a partition.
-use Rattle.std.proofs.Common.{◌≡◌, ◌∙◌, ℕ, suc, ◌+◌, ◌*◌, ◌<◌, List, [], get_or, map, refl, ap}
-use Rattle.std.proofs.Common.{arith}
-use Rattle.std.specs.Prelude.{Bool, true, false, ◌||◌, ◌==◌, Option, Some, None, All, max, min}
+use Rattle.std.proofs.Common.{◌≡◌, ℕ, suc, ◌<◌, List, get_or, refl, ap, arith}
+use Rattle.std.specs.Prelude.{Bool, false, ◌||◌, ◌==◌, Option, Some, None, max, min}
 use Rattle.std.specs.Prelude.{nat_le, nat_lt, slice_get}
 use Rattle.std.specs.List.{list_any}
-use Rattle.std.proofs.lemmas.Bool.{and_parts, and_right, both_ways, or_from, leb-true, ltb-false}
-use Rattle.std.proofs.lemmas.Bool.{ltb-true, false_from_ne_true, true_from_ne_false}
+use Rattle.std.proofs.lemmas.Bool.{and_parts, and_right, leb-true, ltb-false, ltb-true}
+use Rattle.std.proofs.lemmas.Bool.{false_from_ne_true}
 use Rattle.std.proofs.lemmas.List.Folds.{list_any_none}
 use Rattle.std.proofs.lemmas.List.Elements.{All-weaker}
+use Rattle.partition_map.specs.Time.{END}
+use Rattle.partition_map.specs.Partitions.{start_of, end_of, is_covered, is_met}
 use Rattle.table_desc.specs.declared.table.Key.{Key}
-use Rattle.table_desc.specs.declared.view.Src.{Src}
 use Rattle.table_desc.specs.declared.delivery.DRow.{DRow}
 use Rattle.table_desc.specs.Deliveries.{DeliveryOf}
 use Rattle.table_desc.specs.Descriptions.{DescOf}
 use Rattle.table_desc.specs.Tables.{TableOf}
-use Rattle.table_desc.specs.Sources.{HasAlignedSources, HasEarlierSources, kind_sources}
-use Rattle.table_desc.specs.Sources.{table_width, width_of, IsAligned}
-use Rattle.partition_map.specs.Time.{END}
-use Rattle.partition_map.specs.Partitions.{end_of, is_covered, is_met}
-use Rattle.view_meaning.specs.Partitions.{is_part, keys_below}
-use Rattle.partition_map.specs.Partitions.{start_of}
-use Rattle.view_meaning.specs.Partitions.{keys_read, sources_of}
+use Rattle.table_desc.specs.Sources.{HasEarlierSources, width_of}
+use Rattle.view_meaning.specs.Partitions.{is_part, sources_of}
 use Rattle.view_meaning.specs.Journal.{row_tick}
 use Rattle.view_meaning.specs.RawValues.{covers_tick, holds_cells, lies_in}
 use Rattle.view_meaning.specs.Reached.{brings, is_reached, is_reached_within}
-use Rattle.view_meaning.specs.PartLists.{key_of}
-use Rattle.view_meaning.proofs.ListLemmas.{flat_map-agree, flat_map-none, list_any-agree}
-use Rattle.partition_map.proofs.PartitionLemmas.{parts_met-empty, start_of-next}
-use Rattle.view_meaning.proofs.PartListLemmas.{source_parts-aligned}
+use Rattle.view_meaning.proofs.ListLemmas.{list_any-agree}
 use Rattle.view_meaning.proofs.SourceLemmas.{sources_of-earlier, within-enough}
 
 -- whether deliveries bring a row of the partition, or one of its sources passes a test
@@ -107,50 +99,8 @@ brings-none desc deliveries key none =
     let rows = (get_or deliveries index default).rows in
     list_any_none (lies_in desc key) rows (λ index default _. none (get_or rows index default)))
 
--- such a key reads nothing of an aligned source
-keys_read-outside : (desc : DescOf) (width part : ℕ) (src : Src) → is_met width 0 END part ≡ false
-    → IsAligned width (table_width desc src.table) src.span
-    → keys_read desc width part src ≡ []
-keys_read-outside desc width part src outside aligned =
-    let source_width = table_width desc src.table in
-    let to = min END ((part + 1) * width) in
-    let ends = ltb-false (max (start_of width part) 0) (min (end_of width part) END) outside in
-    let next = start_of-next width part in
-    ap (λ (parts : List ℕ). map (key_of src.table) parts)
-    (source_parts-aligned width source_width part src.span aligned
-    ∙ parts_met-empty source_width (part * width) to (omega arith))
-
--- so it has no sources
-sources_of-outside : (desc : DescOf) (key : Key) → HasAlignedSources desc
-    → is_part desc key ≡ false → sources_of desc key ≡ []
-sources_of-outside desc key aligned outside =
-    at_table (slice_get desc.tables key.table)
-    (λ table there. aligned key.table table there) outside
-  where
-    at_table : (found : Option TableOf)
-        → ((table : TableOf) → found ≡ Some table
-        → All (λ (src : Src). IsAligned table.width (table_width desc src.table) src.span)
-        (kind_sources table.kind))
-        → is_met (width_of found) 0 END key.part ≡ false
-        → keys_below desc key.part found ≡ []
-    at_table None aligned outside = refl
-    at_table (Some table) aligned outside =
-        flat_map-agree (keys_read desc table.width key.part) (λ _. []) (kind_sources table.kind)
-        (All-weaker (λ (src : Src). IsAligned table.width (table_width desc src.table) src.span)
-        (λ src. keys_read desc table.width key.part src ≡ [])
-        (λ src. keys_read-outside desc table.width key.part src outside)
-        (kind_sources table.kind) (aligned table refl))
-        ∙ flat_map-none (λ _. []) (kind_sources table.kind) (λ _. refl)
-
--- what deliveries reach are partitions
-pub is_part-is_reached : (desc : DescOf) (deliveries : List DeliveryOf) (key : Key)
-    → HasEarlierSources desc → HasAlignedSources desc
-    → is_reached desc deliveries key ≡ true → is_part desc key ≡ true
-is_part-is_reached desc deliveries key earlier aligned reached = true_from_ne_false
-    (is_part desc key) (λ outside. both_ways (is_reached desc deliveries key)
-    (is_reached-step desc deliveries key earlier
-    ∙ or_from (list_any (brings key desc) deliveries)
-    (list_any (is_reached desc deliveries) (sources_of desc key))
-    (brings-none desc deliveries key (λ row. lies_in-outside desc key row outside))
-    (ap (λ (sources : List Key). list_any (is_reached desc deliveries) sources)
-    (sources_of-outside desc key aligned outside))) reached)
+-- so deliveries bring no row of a key that is no partition
+pub brings-outside : (desc : DescOf) (deliveries : List DeliveryOf) (key : Key)
+    → is_part desc key ≡ false → list_any (brings key desc) deliveries ≡ false
+brings-outside desc deliveries key outside =
+    brings-none desc deliveries key (λ row. lies_in-outside desc key row outside)

@@ -7,37 +7,34 @@ use Rattle.std.specs.Prelude.{slice_get, if◌then◌else◌, Vec}
 use Rattle.std.specs.List.{filter, list_any, range_with_len}
 use Rattle.std.specs.declared.alloc.Global.{Global}
 use Rattle.std.specs.List.Sorted.{IsStrictlyIncreasing}
-use Rattle.std.proofs.lemmas.Bool.{and_parts, and_from, cases_lt, false≢true, ltb-true}
+use Rattle.std.proofs.lemmas.Bool.{and_parts, cases_lt, false≢true, ltb-true}
 use Rattle.std.proofs.lemmas.List.{append-nil, get_or_append_left, get_or_past, length-append}
 use Rattle.std.proofs.lemmas.List.Concat.{flat_map-append}
-use Rattle.std.proofs.lemmas.List.Elements.{All-weaker}
 use Rattle.std.proofs.lemmas.List.Kept.{AllPairs-filter, AllPairs-from_increasing}
+use Rattle.std.proofs.Math.Bool.{and-true}
 use Rattle.std.proofs.Math.Seq.{get_or-append_seam}
+use Rattle.partition_map.specs.Time.{END}
+use Rattle.partition_map.specs.Partitions.{start_of, end_of, is_met, all_parts, has}
+use Rattle.partition_map.proofs.ListLemmas.{range_with_len-append}
+use Rattle.partition_map.proofs.NumberLemmas.{has-filter}
 use Rattle.table_desc.specs.declared.table.Key.{Key}
 use Rattle.table_desc.specs.Deliveries.{DeliveryOf}
 use Rattle.table_desc.specs.Descriptions.{DescOf}
 use Rattle.table_desc.specs.Tables.{TableOf}
-use Rattle.table_desc.specs.Sources.{HasAlignedSources, HasEarlierSources, table_width, width_of}
-use Rattle.partition_map.specs.Time.{END}
-use Rattle.partition_map.specs.Partitions.{all_parts, end_of, is_met}
-use Rattle.view_meaning.specs.Partitions.{keys_below, sources_of}
-use Rattle.partition_map.specs.Partitions.{start_of}
+use Rattle.table_desc.specs.Sources.{HasEarlierSources, kind_sources, table_width, width_of}
+use Rattle.view_meaning.specs.Partitions.{is_part, keys_below, sources_of}
 use Rattle.view_meaning.specs.Versions.{is_raw_kind}
 use Rattle.view_meaning.specs.Drains.{view_keys}
 use Rattle.view_meaning.specs.Reached.{brings, is_reached, reached}
-use Rattle.partition_map.specs.Partitions.{has}
 use Rattle.view_meaning.specs.PartLists.{AllReached, AreBrought, AreInTime, AreUpTo, Gains}
-use Rattle.view_meaning.specs.PartLists.{is_listed, key_of, keys_of_view, lists_of, reached_of}
-use Rattle.partition_map.proofs.ListLemmas.{range_with_len-append}
-use Rattle.view_meaning.proofs.ListLemmas.{list_any-agree, filter-map}
-use Rattle.view_meaning.proofs.ListLemmas.{filter-flat_map}
-use Rattle.partition_map.proofs.BoolLemmas.{same-answer}
-use Rattle.view_meaning.proofs.KeyLemmas.{AllPairs-all_parts}
-use Rattle.partition_map.proofs.NumberLemmas.{has-filter}
+use Rattle.view_meaning.specs.PartLists.{is_listed, is_reached_part, key_of, keys_of_view}
+use Rattle.view_meaning.specs.PartLists.{lists_of, reached_of, reads_listed}
+use Rattle.view_meaning.proofs.BoolLemmas.{or-and}
+use Rattle.view_meaning.proofs.ListLemmas.{list_any-agree, filter-flat_map, filter-map}
+use Rattle.view_meaning.proofs.KeyLemmas.{AllPairs-all_parts, sources_of-parts}
 use Rattle.view_meaning.proofs.NumberLemmas.{rising-same}
-use Rattle.partition_map.proofs.NumberLemmas.{has-parts_met}
-use Rattle.view_meaning.proofs.PartListLemmas.{AreBrought-at, length-lists_of}
-use Rattle.view_meaning.proofs.ReachedLemmas.{is_part-is_reached, is_reached-step}
+use Rattle.view_meaning.proofs.PartListLemmas.{AreBrought-at, has-all_parts, length-lists_of}
+use Rattle.view_meaning.proofs.ReachedLemmas.{brings-outside, is_reached-step}
 use Rattle.view_meaning.proofs.SourceLemmas.{sources_of-earlier}
 
 -- a partition that shares a tick with time begins in it
@@ -48,12 +45,11 @@ start-is_part width part met =
 
 -- listed numbers of reached partitions are of partitions that begin in time
 pub AreInTime-AllReached : (desc : DescOf) (deliveries : List DeliveryOf) (lists : List (List ℕ))
-    → HasEarlierSources desc → HasAlignedSources desc → AllReached desc deliveries lists
-    → AreInTime desc lists
-AreInTime-AllReached desc deliveries lists earlier aligned reached key listed = ⊎_elim
+    → AllReached desc deliveries lists → AreInTime desc lists
+AreInTime-AllReached desc deliveries lists reached key listed = ⊎_elim
     (λ below. start-is_part (table_width desc key.table) key.part
-    (is_part-is_reached desc deliveries key earlier aligned
-    (sym (reached key.table key.part below) ∙ listed)))
+    (and_parts (is_reached desc deliveries key) (is_part desc key)
+    (sym (reached key.table key.part below) ∙ listed)).1)
     (λ behind. absurd (false≢true
     (ap (λ (parts : List ℕ). has parts key.part) (sym (get_or_past lists key.table [] behind))
     ∙ listed)))
@@ -64,7 +60,38 @@ pub record IsNext (desc : DescOf) (deliveries : List DeliveryOf) (number : ℕ) 
     (parts : List ℕ) : Type 0 where
   pub there : slice_get desc.tables number ≡ Some table
   pub rising : IsStrictlyIncreasing parts
-  pub exact : (part : ℕ) → has parts part ≡ is_reached desc deliveries (key_of number part)
+  pub exact : (part : ℕ) → has parts part ≡ is_reached_part desc deliveries (key_of number part)
+
+-- of the first table without a list, the sources that are listed are those that are reached
+is_listed-sources : (desc : DescOf) (deliveries : List DeliveryOf) (lists : List (List ℕ))
+    (key : Key) → HasEarlierSources desc → AllReached desc deliveries lists
+    → key.table ≡ length lists
+    → All (λ source. is_listed lists source ≡ is_reached desc deliveries source)
+    (sources_of desc key)
+is_listed-sources desc deliveries lists key earlier reached next index default within =
+    let source = get_or (sources_of desc key) index default in
+    let before : source.table < key.table =
+    sources_of-earlier desc key earlier index default within in
+    reached source.table source.part (omega arith)
+    ∙ ap (λ (part : Bool). is_reached desc deliveries source && part)
+    (sources_of-parts desc key index default within)
+    ∙ and-true (is_reached desc deliveries source)
+
+-- so a partition of that table reads a listed one exactly if it has a source that is reached
+reads_listed-reached : (desc : DescOf) (deliveries : List DeliveryOf) (lists : List (List ℕ))
+    (number : ℕ) (table : TableOf) (part : ℕ)
+    → HasEarlierSources desc → slice_get desc.tables number ≡ Some table → number ≡ length lists
+    → AllReached desc deliveries lists
+    → reads_listed desc lists table.width (kind_sources table.kind) part
+    ≡ (list_any (is_reached desc deliveries) (sources_of desc (key_of number part))
+    && is_part desc (key_of number part))
+reads_listed-reached desc deliveries lists number table part earlier there next reached =
+    let key = key_of number part in
+    ap (λ (found : Option TableOf). list_any (is_listed lists) (keys_below desc part found)
+    && is_met (width_of found) 0 END part) (sym there)
+    ∙ ap (λ (any : Bool). any && is_part desc key)
+    (list_any-agree (is_listed lists) (is_reached desc deliveries) (sources_of desc key)
+    (is_listed-sources desc deliveries lists key earlier reached next))
 
 -- the numbers brought of a table, with those that read listed ones, are those reached of it
 pub has-reached : (desc : DescOf) (deliveries : List DeliveryOf) (lists : List (List ℕ))
@@ -72,31 +99,26 @@ pub has-reached : (desc : DescOf) (deliveries : List DeliveryOf) (lists : List (
     → HasEarlierSources desc → slice_get desc.tables number ≡ Some table → number ≡ length lists
     → AllReached desc deliveries lists
     → ((part : ℕ) → has brought part ≡ list_any (brings (key_of number part) desc) deliveries)
-    → Gains (λ part. list_any (is_listed lists) (keys_below desc part (Some table))) brought gained
-    → (part : ℕ) → has gained part ≡ is_reached desc deliveries (key_of number part)
+    → Gains (reads_listed desc lists table.width (kind_sources table.kind)) brought gained
+    → (part : ℕ) → has gained part ≡ is_reached_part desc deliveries (key_of number part)
 has-reached desc deliveries lists number table brought gained earlier there next reached own
     gains part =
     let key = key_of number part in
     let brought_any = list_any (brings key desc) deliveries in
-    let same : All (λ source. is_listed lists source ≡ is_reached desc deliveries source)
-    (sources_of desc key) =
-    All-weaker (λ (source : Key). source.table < number)
-    (λ source. is_listed lists source ≡ is_reached desc deliveries source)
-    (λ source before. reached source.table source.part (omega arith)) (sources_of desc key)
-    (sources_of-earlier desc key earlier) in
     gains part
-    ∙ ap (λ (had : Bool). had || list_any (is_listed lists) (keys_below desc part (Some table)))
+    ∙ ap (λ (had : Bool). had || reads_listed desc lists table.width (kind_sources table.kind) part)
     (own part)
-    ∙ ap (λ (found : Option TableOf).
-    brought_any || list_any (is_listed lists) (keys_below desc part found)) (sym there)
-    ∙ ap (λ (above : Bool). brought_any || above)
-    (list_any-agree (is_listed lists) (is_reached desc deliveries) (sources_of desc key) same)
-    ∙ sym (is_reached-step desc deliveries key earlier)
+    ∙ ap (λ (read : Bool). brought_any || read)
+    (reads_listed-reached desc deliveries lists number table part earlier there next reached)
+    ∙ or-and brought_any (list_any (is_reached desc deliveries) (sources_of desc key))
+    (is_part desc key) (brings-outside desc deliveries key)
+    ∙ ap (λ (any : Bool). any && is_part desc key)
+    (sym (is_reached-step desc deliveries key earlier))
 
 -- one list more
 AllReached-push : (desc : DescOf) (deliveries : List DeliveryOf) (lists : List (List ℕ))
     (parts : List ℕ) → AllReached desc deliveries lists
-    → ((part : ℕ) → has parts part ≡ is_reached desc deliveries (key_of (length lists) part))
+    → ((part : ℕ) → has parts part ≡ is_reached_part desc deliveries (key_of (length lists) part))
     → AllReached desc deliveries (lists ++ parts ∷ [])
 AllReached-push desc deliveries lists parts reached own table part within = ⊎_elim
     (λ below. ap (λ (parts : List ℕ). has parts part)
@@ -106,44 +128,29 @@ AllReached-push desc deliveries lists parts reached own table part within = ⊎_
     ∙ own part))
     (cases_lt table (length lists))
 
--- a partition is among all of a table exactly if it shares a tick with time
-has-all_parts : (width part : ℕ) → has (all_parts width) part ≡ is_met width 0 END part
-unfolding all_parts
-has-all_parts width part = has-parts_met width 0 END part
-
 -- rising numbers that are reached of a table are, of all its partitions, those that are reached
 rising-reached : (desc : DescOf) (deliveries : List DeliveryOf) (number : ℕ) (table : TableOf)
-    (parts : List ℕ) → HasEarlierSources desc → HasAlignedSources desc
-    → IsNext desc deliveries number table parts
+    (parts : List ℕ) → IsNext desc deliveries number table parts
     → parts ≡ filter (λ part. is_reached desc deliveries (key_of number part))
     (all_parts table.width)
-rising-reached desc deliveries number table parts earlier aligned next =
+rising-reached desc deliveries number table parts next =
     rising-same parts (filter test (all_parts table.width))
     (AllPairs-from_increasing parts next.rising)
     (AllPairs-filter (λ x y. x < y) test (all_parts table.width)
     (AllPairs-all_parts table.width))
     (λ part. next.exact part
-    ∙ same-answer (test part) (test part && has (all_parts table.width) part)
-    (λ passes. and_from (test part) (has (all_parts table.width) part) passes
-    (in_time part passes))
-    (λ both. (and_parts (test part) (has (all_parts table.width) part) both).0)
+    ∙ ap (λ (found : Option TableOf). test part && is_met (width_of found) 0 END part) next.there
+    ∙ ap (λ (there : Bool). test part && there) (sym (has-all_parts table.width part))
     ∙ sym (has-filter test (all_parts table.width) part))
   where
     test : ℕ → Bool
     test part = is_reached desc deliveries (key_of number part)
 
-    in_time : (part : ℕ) → test part ≡ true → has (all_parts table.width) part ≡ true
-    in_time part passes =
-        has-all_parts table.width part
-        ∙ ap (λ (found : Option TableOf). is_met (width_of found) 0 END part) (sym next.there)
-        ∙ is_part-is_reached desc deliveries (key_of number part) earlier aligned passes
-
 -- the keys told of a view are those of its partitions that are reached
 keys_of_view-reached : (desc : DescOf) (deliveries : List DeliveryOf) (number : ℕ)
-    (table : TableOf) (parts : List ℕ) → HasEarlierSources desc → HasAlignedSources desc
-    → IsNext desc deliveries number table parts
+    (table : TableOf) (parts : List ℕ) → IsNext desc deliveries number table parts
     → keys_of_view number table.kind parts ≡ reached_of desc deliveries number
-keys_of_view-reached desc deliveries number table parts earlier aligned next =
+keys_of_view-reached desc deliveries number table parts next =
     at_kind (is_raw_kind table.kind)
     ∙ ap (λ (found : Option TableOf). filter (is_reached desc deliveries) (view_keys number found))
     (sym next.there)
@@ -154,7 +161,7 @@ keys_of_view-reached desc deliveries number table parts earlier aligned next =
     at_kind true = refl
     at_kind false =
         ap (λ (parts : List ℕ). map (key_of number) parts)
-        (rising-reached desc deliveries number table parts earlier aligned next)
+        (rising-reached desc deliveries number table parts next)
         ∙ sym (filter-map (is_reached desc deliveries) (key_of number) (all_parts table.width))
 
 -- the keys of the tables up to one are those of the tables before it, then those of that one
@@ -182,13 +189,13 @@ reached_of-all desc deliveries =
 -- one table more
 pub AreUpTo-push : (desc : DescOf) (deliveries : List DeliveryOf) (lists : List (List ℕ))
     (keys : List Key) (number : ℕ) (table : TableOf) (parts : List ℕ)
-    → HasEarlierSources desc → HasAlignedSources desc → number ≡ length lists
+    → number ≡ length lists
     → IsNext desc deliveries number table parts → AreUpTo desc deliveries lists keys
     → AreUpTo desc deliveries (lists ++ parts ∷ []) (keys ++ keys_of_view number table.kind parts)
-AreUpTo-push desc deliveries lists keys number table parts earlier aligned end next up_to = record {
+AreUpTo-push desc deliveries lists keys number table parts end next up_to = record {
   listed = AllReached-push desc deliveries lists parts up_to.listed (rw end at next.exact);
   told = ap (λ (own : List Key). keys ++ own)
-      (keys_of_view-reached desc deliveries number table parts earlier aligned next)
+      (keys_of_view-reached desc deliveries number table parts next)
       ∙ ap (λ (before : List Key). before ++ reached_of desc deliveries number)
       (rw (← end) at up_to.told)
       ∙ sym (reached_of-push desc deliveries number)
@@ -207,7 +214,7 @@ pub record IsTurn (desc : DescOf) (deliveries : List DeliveryOf) (lists : List (
   pub read : parts ≡ get_or all number parts
   pub brought : AreBrought desc deliveries (lists_of all)
   pub gains : Gains
-      (λ part. list_any (is_listed (lists_of lists)) (keys_below desc part (Some table)))
+      (reads_listed desc (lists_of lists) table.width (kind_sources table.kind))
       parts.items gained
   pub rising : IsStrictlyIncreasing sorted
   pub same : (part : ℕ) → has sorted part ≡ has gained part
@@ -216,16 +223,16 @@ pub record IsTurn (desc : DescOf) (deliveries : List DeliveryOf) (lists : List (
 pub AreUpTo-turn : (desc : DescOf) (deliveries : List DeliveryOf) (lists : List (Vec ℕ Global))
     (keys : List Key) (number : ℕ) (table : TableOf) (all : List (Vec ℕ Global))
     (parts : Vec ℕ Global) (gained sorted : List ℕ)
-    → HasEarlierSources desc → HasAlignedSources desc
+    → HasEarlierSources desc
     → IsTurn desc deliveries lists number table all parts gained sorted
     → AreUpTo desc deliveries (lists_of lists) keys
     → AreUpTo desc deliveries (lists_of lists ++ sorted ∷ [])
     (keys ++ keys_of_view number table.kind sorted)
-AreUpTo-turn desc deliveries lists keys number table all parts gained sorted earlier aligned turn
+AreUpTo-turn desc deliveries lists keys number table all parts gained sorted earlier turn
     up_to =
     let last : number ≡ length (lists_of lists) =
     omega (arith, turn.last, length-lists_of lists) in
-    AreUpTo-push desc deliveries (lists_of lists) keys number table sorted earlier aligned last
+    AreUpTo-push desc deliveries (lists_of lists) keys number table sorted last
     record {
       there = turn.there;
       rising = turn.rising;

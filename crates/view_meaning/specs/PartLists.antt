@@ -1,17 +1,19 @@
 -- Lists of partitions' numbers, one for each table, as the program that computes reached partitions
 -- keeps them.
-use Rattle.std.specs.Prelude.{ℕ, ◌≡◌, ◌<◌, ◌||◌, Bool, true, List, [], map, filter, flat_map}
-use Rattle.std.specs.Prelude.{length, slice_get, slice_index_or, nat_eq, if◌then◌else◌, Vec}
+use Rattle.std.specs.Prelude.{ℕ, ◌≡◌, ◌<◌, ◌||◌, ◌&&◌, Bool, true, List, [], map, filter, flat_map}
+use Rattle.std.specs.Prelude.{length, slice_get, slice_index_or, if◌then◌else◌, Vec}
 use Rattle.std.specs.List.{list_any, range_with_len}
 use Rattle.std.specs.declared.alloc.Global.{Global}
 use Rattle.table_desc.specs.declared.table.Key.{Key}
 use Rattle.table_desc.specs.declared.delivery.DRow.{DRow}
+use Rattle.table_desc.specs.declared.view.Src.{Src}
 use Rattle.table_desc.specs.Deliveries.{DeliveryOf}
 use Rattle.table_desc.specs.Descriptions.{DescOf}
 use Rattle.table_desc.specs.KindValues.{KindOf}
 use Rattle.table_desc.specs.Sources.{table_width}
 use Rattle.partition_map.specs.Time.{END}
-use Rattle.partition_map.specs.Partitions.{start_of, has}
+use Rattle.partition_map.specs.Partitions.{start_of, is_met, has}
+use Rattle.view_meaning.specs.Partitions.{is_part, keys_read}
 use Rattle.view_meaning.specs.RawValues.{lies_in}
 use Rattle.view_meaning.specs.Versions.{is_raw_kind}
 use Rattle.view_meaning.specs.Drains.{view_keys}
@@ -59,14 +61,25 @@ abbrev pub AreInTime : DescOf → List (List ℕ) → Type 0
 AreInTime desc lists = (key : Key) → is_listed lists key ≡ true
     → start_of (table_width desc key.table) key.part < END
 
+-- whether a number is that of a partition of a view that reads one listed of these sources. With
+-- offsets a number after the last partition may read listed ones too.
+abbrev pub reads_listed : DescOf → List (List ℕ) → (width : ℕ) → List Src → (part : ℕ) → Bool
+reads_listed desc lists width sources part =
+    list_any (is_listed lists) (flat_map (keys_read desc width part) sources)
+    && is_met width 0 END part
+
 -- the partitions of a view with these numbers, and none if the table is raw
 abbrev pub keys_of_view : (table : ℕ) → KindOf → List ℕ → List Key
 keys_of_view table kind parts = if is_raw_kind kind then [] else map (key_of table) parts
 
+-- whether a key is a partition that deliveries reach
+abbrev pub is_reached_part : DescOf → List DeliveryOf → Key → Bool
+is_reached_part desc deliveries key = is_reached desc deliveries key && is_part desc key
+
 -- the lists have, of each table that has one, the numbers of the partitions that deliveries reach
 abbrev pub AllReached : DescOf → List DeliveryOf → List (List ℕ) → Type 0
 AllReached desc deliveries lists = (table part : ℕ) → table < length lists
-    → has (parts_at lists table) part ≡ is_reached desc deliveries (key_of table part)
+    → has (parts_at lists table) part ≡ is_reached_part desc deliveries (key_of table part)
 
 -- the partitions of a table that deliveries reach, by number, if it is a view
 abbrev pub reached_of : DescOf → List DeliveryOf → (table : ℕ) → List Key

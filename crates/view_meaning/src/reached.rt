@@ -2,28 +2,28 @@
 //! settled. For each table in order its partitions are listed by number: those that rows of the
 //! deliveries lie in, and those that read a listed one of an earlier table.
 
-ghost use Rattle.std.specs.Prelude.{ℕ, ◌≡◌, ◌<◌, ◌≤◌, ◌++◌, ◌∷◌, ◌+◌, ◌/◌, [], Some};
-ghost use Rattle.std.specs.Prelude.{IfOk, OnErr, OnOk, IsSome, All, length, map, option_to_list};
-ghost use Rattle.std.specs.Prelude.{slice_get, slice_set, vec_len};
-ghost use Rattle.std.specs.List.{list_any};
+ghost use Rattle.std.specs.Prelude.{ℕ, ◌≡◌, ◌<◌, ◌≤◌, ◌++◌, ◌∷◌, ◌+◌, [], Some};
+ghost use Rattle.std.specs.Prelude.{IfOk, OnErr, OnOk, IsSome, All, flat_map, length, map};
+ghost use Rattle.std.specs.Prelude.{option_to_list, slice_get, slice_set, vec_len};
+ghost use Rattle.std.specs.List.{range_with_len};
 ghost use Rattle.std.specs.List.Sorted.{IsStrictlyIncreasing};
-ghost use Rattle.table_desc.specs.Sources.{table_width, kind_sources, IsAligned, HasAlignedSources};
-ghost use Rattle.table_desc.specs.Sources.{HasEarlierSources};
 ghost use Rattle.partition_map.specs.Time.{END};
+ghost use Rattle.partition_map.specs.Partitions.{start_of, is_covered, has};
+ghost use Rattle.partition_map.specs.Partitions.{dependent_parts, SpanFits};
+ghost use Rattle.table_desc.specs.Sources.{table_width, kind_sources};
+ghost use Rattle.table_desc.specs.Sources.{HasEarlierSources, HasFittingSources};
 ghost use Rattle.view_meaning.specs.Growth.{BeginsWith};
-ghost use Rattle.partition_map.specs.Partitions.{start_of, is_covered};
-ghost use Rattle.view_meaning.specs.Partitions.{keys_below, keys_read};
-ghost use Rattle.partition_map.specs.Partitions.{has};
 ghost use Rattle.view_meaning.specs.PartLists.{AllGain, AreBrought, AreInTime, Gains};
-ghost use Rattle.view_meaning.specs.PartLists.{is_listed, key_of, keys_of_view, lists_of, parts_at};
-ghost use Rattle.view_meaning.specs.PartLists.{takes, takes_any};
+ghost use Rattle.view_meaning.specs.PartLists.{key_of, keys_of_view, lists_of, parts_at};
+ghost use Rattle.view_meaning.specs.PartLists.{reads_listed, takes, takes_any};
 ghost use Rattle.view_meaning.specs.RawValues.{lies_in};
 ghost use Rattle.view_meaning.specs.Reached.{reached};
 
 use crate::plain::row_tick;
 use depot_cell::Memory;
+use partition_map::{Parts, dependents_of, part_of};
 use std::alloc::Global;
-use table_desc::{DRow, Delivery, Desc, END, Key, Kind, Src, Table, Width};
+use table_desc::{DRow, Delivery, Desc, END, Key, Kind, Span, Src, Table, Width};
 
 /// The partitions of views that deliveries reach, in order of key: those that stand above a
 /// partition of which they bring a row. The work is by the rows and by the partitions that they
@@ -31,7 +31,7 @@ use table_desc::{DRow, Delivery, Desc, END, Key, Kind, Src, Table, Width};
 pub fn reached_keys(alloc: Global, desc: &Desc, deliveries: &[Delivery]) -> Result<Vec<Key>, Memory>
     requires few { length desc.now.tables ≤ 65_536 }
     requires earlier { HasEarlierSources desc.now }
-    requires aligned { HasAlignedSources desc.now }
+    requires fits { HasFittingSources desc.now }
     ensures exact { IfOk result (λ keys. keys.items ≡ reached desc.now deliveries.now) }
 {
     let mut keys = Vec::new(alloc);
@@ -121,7 +121,7 @@ fn push_row(desc: &Desc, row: &DRow, lists: &mut Vec<Vec<u64>>) -> Result<(), Me
         (lists_of lists.old.items) (lists_of lists.new.items)) }
     ensures err { OnErr result (lists_of lists.new.items ≡ lists_of lists.old.items) }
 {
-    match part_of(desc, row) {
+    match part_of_row(desc, row) {
         Some(part) => push_part(lists, usize::from(row.table), part),
         None => Ok(()),
     }
@@ -142,7 +142,7 @@ fn push_part(lists: &mut Vec<Vec<u64>>, table: usize, part: u64) -> Result<(), M
 }
 
 /// The number of the partition that a row lies in, if there is one.
-fn part_of(desc: &Desc, row: &DRow) -> Option<u64>
+fn part_of_row(desc: &Desc, row: &DRow) -> Option<u64>
     ensures exact { (part : ℕ) → has (option_to_list result) part
         ≡ lies_in desc.now (key_of row.now.table part) row.now }
     ensures within { IsSome result → row.now.table < length desc.now.tables }
@@ -156,7 +156,7 @@ fn covering_part(width: Width, tick: u64) -> Option<u64>
     ensures exact { (part : ℕ) → has (option_to_list result) part ≡ is_covered width part tick }
 {
     if tick < END {
-        Some(tick / width.ticks())
+        Some(part_of(width, tick))
     } else {
         None
     }
@@ -172,12 +172,10 @@ fn push_above(
     requires within { length lists.now ≤ length desc.now.tables }
     requires in_time { AreInTime desc.now (lists_of lists.now) }
     requires earlier { All (λ src. src.table < length lists.now) (kind_sources table.now.kind) }
-    requires aligned { All (λ src.
-        IsAligned table.now.width (table_width desc.now src.table) src.span)
+    requires fits { All (λ src. SpanFits table.now.width (table_width desc.now src.table) src.span)
         (kind_sources table.now.kind) }
-    ensures ok { OnOk result (Gains (λ part.
-        list_any (is_listed (lists_of lists.now)) (keys_below desc.now part (Some table.now)))
-        parts.old.items parts.new.items) }
+    ensures ok { OnOk result (Gains (reads_listed desc.now (lists_of lists.now) table.now.width
+        (kind_sources table.now.kind)) parts.old.items parts.new.items) }
     ensures kept { BeginsWith parts.old.items parts.new.items }
 {
     match &table.kind {
@@ -202,15 +200,16 @@ fn push_readers(
     requires within { length lists.now ≤ length desc.now.tables }
     requires in_time { AreInTime desc.now (lists_of lists.now) }
     requires earlier { src.now.table < length lists.now }
-    requires aligned { IsAligned width (table_width desc.now src.now.table) src.now.span }
+    requires fits { SpanFits width (table_width desc.now src.now.table) src.now.span }
     ensures ok { OnOk result (Gains
-        (λ part. list_any (is_listed (lists_of lists.now)) (keys_read desc.now width part src.now))
+        (reads_listed desc.now (lists_of lists.now) width (src.now ∷ []))
         parts.old.items parts.new.items) }
     ensures kept { BeginsWith parts.old.items parts.new.items }
 {
-    push_wider(
-        ticks_of(desc, src.table),
-        width.ticks(),
+    push_dependents(
+        width,
+        width_of(desc, src.table),
+        src.span,
         parts_of(lists, src.table),
         parts,
     )
@@ -224,33 +223,44 @@ fn parts_of(lists: &[Vec<u64>], table: u16) -> &[u64]
     &lists[usize::from(table)]
 }
 
-/// How many ticks a partition of a table covers.
-fn ticks_of(desc: &Desc, table: u16) -> u64
+/// The width of a table.
+fn width_of(desc: &Desc, table: u16) -> Width
     requires { table < length desc.now.tables }
     ensures exact { result ≡ table_width desc.now table }
-    ensures within { 1 ≤ table_width desc.now table }
 {
-    desc.tables[usize::from(table)].width.ticks()
+    desc.tables[usize::from(table)].width
 }
 
-/// Puts at the end the numbers of the wider partitions that these lie in, by the ticks that one
-/// covers.
-fn push_wider(
-    source_ticks: u64,
-    ticks: u64,
+/// Puts at the end, for each of these partitions of a source, the numbers of the view's partitions
+/// that read it.
+fn push_dependents(
+    width: Width,
+    source_width: Width,
+    span: Span,
     source_parts: &[u64],
     parts: &mut Vec<u64>,
 ) -> Result<(), Memory>
-    requires some { 1 ≤ ticks }
-    requires in_time { All (λ part. start_of source_ticks part < END) source_parts.now }
+    requires fits { SpanFits width source_width span }
+    requires in_time { All (λ part. start_of source_width part < END) source_parts.now }
     ensures ok { OnOk result (parts.new.items ≡ parts.old.items
-        ++ map (λ part. start_of source_ticks part / ticks) source_parts.now) }
+        ++ flat_map (dependent_parts width source_width span) source_parts.now) }
     ensures kept { BeginsWith parts.old.items parts.new.items }
 {
     for part in source_parts {
-        if parts.push(part * source_ticks / ticks).is_err() {
-            return Err(Memory);
-        }
+        push_run(dependents_of(width, source_width, span, *part), parts)?;
+    }
+    Ok(())
+}
+
+/// Puts the numbers of a run at the end.
+fn push_run(run: Parts, parts: &mut Vec<u64>) -> Result<(), Memory>
+    requires within { run.first + run.count ≤ END }
+    ensures ok { OnOk result
+        (parts.new.items ≡ parts.old.items ++ range_with_len run.first run.count) }
+    ensures kept { BeginsWith parts.old.items parts.new.items }
+{
+    for part in run.first..run.first + run.count {
+        parts.push(part)?;
     }
     Ok(())
 }

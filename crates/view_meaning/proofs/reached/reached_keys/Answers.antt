@@ -12,8 +12,7 @@ pub push_above-requires-clause-in_time : goal.push_above-requires-clause-in_time
 push_above-requires-clause-in_time c =
     rw c.deref.ensures.value
     (AreInTime-AllReached c.args.desc.now c.args.deliveries.now
-    (lists_of c.loop-parts.reached.items) c.requires.earlier c.requires.aligned
-    c.loop-parts.invariant.up_to.listed)
+    (lists_of c.loop-parts.reached.items) c.loop-parts.invariant.up_to.listed)
 
 pub push_above-requires-clause-earlier : goal.push_above-requires-clause-earlier
 push_above-requires-clause-earlier c =
@@ -21,9 +20,9 @@ push_above-requires-clause-earlier c =
     rw number (c.requires.earlier c.len-number.result c.nth_table-table.result.now
     c.nth_table-table.ensures.exact)
 
-pub push_above-requires-clause-aligned : goal.push_above-requires-clause-aligned
-push_above-requires-clause-aligned c =
-    c.requires.aligned c.len-number.result c.nth_table-table.result.now
+pub push_above-requires-clause-fits : goal.push_above-requires-clause-fits
+push_above-requires-clause-fits c =
+    c.requires.fits c.len-number.result c.nth_table-table.result.now
     c.nth_table-table.ensures.exact
 
 pub loop-parts-preserved : goal.loop-parts-preserved
@@ -49,7 +48,7 @@ loop-parts-preserved c =
           (AreUpTo-turn c.args.desc.now c.args.deliveries.now c.loop-parts.reached.items
           c.loop-parts.keys.items c.len-number.result c.nth_table-table.result.now brought.items
           c.in-Some.parts c.push_above.new.parts.items c.sort_parts.new.parts.items
-          c.requires.earlier c.requires.aligned
+          c.requires.earlier
           record {
             there = c.nth_table-table.ensures.exact;
             last = omega (arith, c.loop-parts.reached.ok.0);
