@@ -15,6 +15,3 @@ pub use fitting::span_fits;
 pub use laws::dependents_mirror_sources;
 pub use parts::{Parts, dependents_of, part_end, part_of, parts_of_span, sources_of};
 pub use time::{END, Span, Width, time_ends_as_defined};
-
-#[cfg(test)]
-mod tests;
