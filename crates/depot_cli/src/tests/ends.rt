@@ -1,8 +1,8 @@
 //! Tests of runs that end early: what they answer, and what they have put into the sink by then.
 
-use super::trial;
+use super::{NONE, TRIAL, expect_run};
 use crate::run::status::{InputEnd, Status};
-use depot_io::{NeverSource, VecSink, VecSource};
+use std::alloc::Global;
 use std::test::Fail;
 
 /// A script of 176 bytes: its `go` begins at 118, its session at 121, its body at 138, `drain` at
@@ -56,77 +56,81 @@ fn cut_at(len: usize) -> (Status, &'static [u8]) {
 
 #[test]
 fn an_input_may_end_early(rt: HostRuntime) -> Result<(), Fail> {
-    let alloc = rt.alloc();
     for len in 0..SCRIPT.len() + 1 {
         let (status, output) = cut_at(len);
-        let mut source = NeverSource::new(SCRIPT[..len].to_vec(alloc)?);
-        let mut sink = VecSink::new(alloc, 4_096, Vec::new(alloc))?;
-        assert_eq!(rt; trial(alloc, &mut source, &mut sink)?, status, "at {len}");
-        assert_eq!(rt; sink.bytes(), output, "at {len}");
-    }
-    // In place of the query a line of so many `x`, and what follows them.
-    let cases: [(usize, &[u8], Status, &[u8]); 4] = [
-        (4_096, b"\nend\nx", Status::Refused, DRAINED_REFUSED),
-        (4_097, b"\nend\n", input(InputEnd::LongLine, 161), DRAINED),
-        (
-            0,
-            b"deliver x y z 16777216\n",
-            input(InputEnd::Cut, 184),
-            DRAINED,
-        ),
-        (
-            0,
-            b"deliver x y z 16777217\n",
-            input(InputEnd::Big, 184),
-            DRAINED,
-        ),
-    ];
-    for (count, tail, status, output) in cases {
-        let mut script = SCRIPT[..161].to_vec(alloc)?;
-        script.extend_from_slice(&vec![in alloc; b'x'; count]?)?;
-        script.extend_from_slice(tail)?;
-        let mut source = NeverSource::new(script);
-        let mut sink = VecSink::new(alloc, 4_096, Vec::new(alloc))?;
-        assert_eq!(rt; trial(alloc, &mut source, &mut sink)?, status);
-        assert_eq!(rt; sink.bytes(), output);
+        expect_run(rt.alloc(), TRIAL, &SCRIPT[..len], NONE, status, output)?;
     }
     Ok(())
 }
 
-/// What is due of the replies once so many takes went well: a take is a byte of a line, or a body.
-fn due_after(takes: u64) -> &'static [u8] {
-    match takes {
-        0..=138 => b"",
-        139..=144 => LOADED,
-        145..=159 => DRAINED,
-        _ => ALL,
+/// Lines that stand in place of the query: so many `x`, what follows them, and how the run ends.
+static LAST_LINES: [(usize, &[u8], Status, &[u8]); 4] = [
+    (4_096, b"\nend\nx", Status::Refused, DRAINED_REFUSED),
+    (4_097, b"\nend\n", LONG_LINE, DRAINED),
+    (0, b"deliver x y z 16777216\n", CUT, DRAINED),
+    (0, b"deliver x y z 16777217\n", BIG, DRAINED),
+];
+
+const LONG_LINE: Status = Status::Input {
+    why: InputEnd::LongLine,
+    place: 161,
+};
+
+const CUT: Status = Status::Input {
+    why: InputEnd::Cut,
+    place: 184,
+};
+
+const BIG: Status = Status::Input {
+    why: InputEnd::Big,
+    place: 184,
+};
+
+/// The script, with so many `x` and then a tail in place of the query.
+fn script_with(alloc: Global, count: usize, tail: &[u8]) -> Result<Vec<u8>, Fail> {
+    let mut script = SCRIPT[..161].to_vec(alloc)?;
+    script.extend_from_slice(&vec![in alloc; b'x'; count]?)?;
+    script.extend_from_slice(tail)?;
+    Ok(script)
+}
+
+#[test]
+fn a_line_or_a_body_may_be_too_long(rt: HostRuntime) -> Result<(), Fail> {
+    for &(count, tail, status, output) in &LAST_LINES {
+        let script = script_with(rt.alloc(), count, tail)?;
+        expect_run(rt.alloc(), TRIAL, &script, NONE, status, output)?;
+    }
+    Ok(())
+}
+
+/// How a run ends of which this take fails, and what is due by then. A take is a byte of a line, or
+/// a body: 138 bytes of lines, a body, 21 bytes of lines, and the end of the input.
+fn due_at(take: u64) -> (Status, &'static [u8]) {
+    match take {
+        0..=139 => (Status::ReadFault, b""),
+        140..=145 => (Status::ReadFault, LOADED),
+        146..=160 => (Status::ReadFault, DRAINED),
+        161 => (Status::ReadFault, ALL),
+        _ => (Status::Done, ALL),
     }
 }
 
 #[test]
-fn each_take_and_each_put_may_fail(rt: HostRuntime) -> Result<(), Fail> {
-    let alloc = rt.alloc();
-    // 138 bytes of lines, a body, 21 bytes of lines, and the end of the input.
-    for call in 1..163 {
-        let mut source = VecSource::new(SCRIPT.to_vec(alloc)?, vec![in alloc; call; 1]?);
-        let mut sink = VecSink::new(alloc, 4_096, Vec::new(alloc))?;
-        let status = if call <= 161 {
-            Status::ReadFault
-        } else {
-            Status::Done
-        };
-        assert_eq!(rt;
-            trial(alloc, &mut source, &mut sink)?,
-            status,
-            "at take {call}"
-        );
-        assert_eq!(rt; sink.bytes(), due_after(call - 1), "at take {call}");
+fn each_take_may_fail(rt: HostRuntime) -> Result<(), Fail> {
+    for take in 1..163 {
+        let (status, output) = due_at(take);
+        expect_run(rt.alloc(), TRIAL, SCRIPT, take, status, output)?;
     }
-    for (call, got) in [(1, b"".as_slice()), (2, LOADED), (3, DRAINED)] {
-        let mut source = NeverSource::new(SCRIPT.to_vec(alloc)?);
-        let mut sink = VecSink::new(alloc, 4_096, vec![in alloc; call; 1]?)?;
-        assert_eq!(rt; trial(alloc, &mut source, &mut sink)?, Status::WriteFault);
-        assert_eq!(rt; sink.bytes(), got, "at put {call}");
+    Ok(())
+}
+
+/// What is put before each put.
+static BEFORE_PUTS: [&[u8]; 3] = [b"", LOADED, DRAINED];
+
+#[test]
+fn each_put_may_fail(rt: HostRuntime) -> Result<(), Fail> {
+    for output in &BEFORE_PUTS {
+        expect_run(rt.alloc(), TRIAL, SCRIPT, NONE, Status::WriteFault, output)?;
     }
     Ok(())
 }

@@ -2,75 +2,86 @@
 
 ghost use Rattle.std.specs.Prelude.{None};
 
-use super::trial;
+use super::{NONE, TRIAL, expect_end, expect_run, run_words};
 use crate::run::laws::{runs_are_complete, serial_is_legal};
-use crate::run::run;
 use crate::run::status::{DescCause, InputEnd, Status};
-use depot_io::{Failed, NeverSource, Sink, Source, VecSink, VecSource};
+use depot_io::{Failed, NeverSource, Sink, Source};
+use std::alloc::Global;
 use std::cell::Cell;
 use std::test::Fail;
 
-#[test]
-fn a_description_is_read_to_its_go_line(rt: HostRuntime) -> Result<(), Fail> {
-    let alloc = rt.alloc();
-    let no_go = |place| Status::Input {
+/// Inputs that end before a `go` line, and the places at which they do.
+static NO_GO: [(&[u8], u64); 4] = [
+    (b"", 0),
+    (b"feed f\n", 7),
+    (b"feed f\ngo\r", 10),
+    (b"feed by\n", 8),
+];
+
+/// Inputs with a description that is not accepted, and their first bad lines.
+static BAD: [(&[u8], u64); 2] = [
+    (b"feed by\ngo\nmarks\n", 1),
+    (b"# none\nfeed f\nfeed g\nfeed h\ngo\n", 3),
+];
+
+fn no_go(place: u64) -> Status {
+    Status::Input {
         why: InputEnd::NoGo,
         place,
-    };
-    let later = |line| Status::BadDescription {
+    }
+}
+
+fn later(line: u64) -> Status {
+    Status::BadDescription {
         line,
         cause: DescCause::Later,
-    };
-    let cases: [(&[u8], Status); 7] = [
-        (b"", no_go(0)),
-        (b"feed f\n", no_go(7)),
-        (b"feed f\ngo\r", no_go(10)),
-        (b"feed by\n", no_go(8)),
-        (b"\tgo \r\n", Status::Done),
-        (b"feed by\ngo\nmarks\n", later(1)),
-        (b"# none\nfeed f\nfeed g\nfeed h\ngo\n", later(3)),
-    ];
-    for (input, status) in cases {
-        let mut source = NeverSource::new(input.to_vec(alloc)?);
-        let mut sink = VecSink::new(alloc, 0, Vec::new(alloc))?;
-        assert_eq!(rt; trial(alloc, &mut source, &mut sink)?, status);
+    }
+}
+
+#[test]
+fn an_input_may_have_no_go_line(rt: HostRuntime) -> Result<(), Fail> {
+    for &(input, place) in &NO_GO {
+        expect_run(rt.alloc(), TRIAL, input, NONE, no_go(place), b"")?;
     }
     Ok(())
 }
+
+#[test]
+fn a_description_is_read_to_its_go_line(rt: HostRuntime) -> Result<(), Fail> {
+    for &(input, line) in &BAD {
+        expect_run(rt.alloc(), TRIAL, input, NONE, later(line), b"")?;
+    }
+    expect_run(rt.alloc(), TRIAL, b"\tgo \r\n", NONE, Status::Done, b"")
+}
+
+/// Words that are no command.
+static OTHERS: [&[&str]; 4] = [&[], &["session"], &["trial", "x"], &["Trial"]];
 
 #[test]
 fn other_words_read_and_write_nothing(rt: HostRuntime) -> Result<(), Fail> {
-    let alloc = rt.alloc();
-    let cases: [&[&str]; 4] = [&[], &["session"], &["trial", "x"], &["Trial"]];
-    for texts in cases {
-        let mut words = Vec::new(alloc);
-        for text in texts {
-            words.push(String::from_str(alloc, text)?)?;
-        }
-        let mut source = VecSource::new(b"go\n".to_vec(alloc)?, vec![in alloc; 1; 1]?);
-        let mut sink = VecSink::new(alloc, 0, Vec::new(alloc))?;
-        assert_eq!(rt; run(alloc, &words, &mut source, &mut sink), Status::Usage);
+    for words in &OTHERS {
+        expect_run(rt.alloc(), words, b"go\n", 1, Status::Usage, b"")?;
     }
     Ok(())
 }
 
-/// With memory each kind of line is served, and a text may be empty.
-#[test]
-fn ample_memory_is_enough(rt: HostRuntime) -> Result<(), Fail> {
-    let alloc = rt.alloc();
-    let script = b"feed f\nraw r feed f width 10 time at cols at:int k:text\n\
+/// A session with a line of each kind, and an empty text.
+const SCRIPT: &[u8] = b"feed f\nraw r feed f width 10 time at cols at:int k:text\n\
 view v width 10 filter r 0 0 where at >= 0 keep k\ngo\n\
 deliver f 0 0 5\nr,3,\ndeliver f 0 0 0\nmarks\ndrain\nquery r 0 10\nquery v 0 10\n\nend\nx";
-    let replies = b"loaded f 0 entry 1 kept 1 aside 0\nrepeat f 0\nrefused 3 later\ndrained at 2\n\
+
+const REPLIES: &[u8] =
+    b"loaded f 0 entry 1 kept 1 aside 0\nrepeat f 0\nrefused 3 later\ndrained at 2\n\
 answer at 2 parts 1\npart r 0 version 1 upto 2 mark open rows 1\n3,\n\
 answer at 2 parts 1\npart v 0 version 1 upto 1 mark open rows 1\n\"\"\n";
-    let mut source = NeverSource::new(script.to_vec(alloc)?);
-    let mut sink = VecSink::new(alloc, replies.len(), Vec::new(alloc))?;
-    let status = trial(alloc, &mut source, &mut sink)?;
-    assert_eq!(rt; status.code(), 1);
-    assert!(rt; !status.is_told());
-    assert_eq!(rt; sink.bytes(), replies.as_slice());
-    assert_eq!(rt; source.take(&mut [0; 2]), Ok(1));
+
+/// The take after `end`: 184 bytes of lines and a body of some bytes stand before it.
+const NEXT: u64 = 186;
+
+/// With memory each kind of line is served, and nothing is taken after `end`.
+#[test]
+fn ample_memory_is_enough(rt: HostRuntime) -> Result<(), Fail> {
+    expect_run(rt.alloc(), TRIAL, SCRIPT, NEXT, Status::Refused, REPLIES)?;
     serial_is_legal();
     runs_are_complete();
     Ok(())
@@ -117,23 +128,35 @@ impl Sink for Watching<'_> {
     }
 }
 
-#[test]
-fn each_reply_is_out_before_the_next_line_is_taken(rt: HostRuntime) -> Result<(), Fail> {
-    let alloc = rt.alloc();
-    let taken = Cell::new(0);
-    // The session begins at 52. Its first line is a comment, and each other one has a reply.
-    let script = b"feed f\nraw r feed f width 10 time at cols at:int\ngo\n\
+/// The session begins at 52. Its first line is a comment, and each other one has a reply.
+const REPLIED: &[u8] = b"feed f\nraw r feed f width 10 time at cols at:int\ngo\n\
 # x\ndeliver f 0 0 4\nr,3\ndrain\nquery r 0 10\nmarks\nend\nmarks\n";
+
+/// How much was taken at each put, and then in all.
+const TAKEN: &[usize] = &[76, 82, 95, 101, 105];
+
+/// Runs the session, and says how much was taken at each put and then in all.
+fn taken_at_puts(alloc: Global, taken: &Cell<usize>) -> Result<Vec<usize>, Fail> {
     let mut source = Counting {
-        source: NeverSource::new(script.to_vec(alloc)?),
-        taken: &taken,
+        source: NeverSource::new(REPLIED.to_vec(alloc)?),
+        taken,
     };
     let mut sink = Watching {
-        taken: &taken,
+        taken,
         at_puts: Vec::new(alloc),
     };
-    assert_eq!(rt; trial(alloc, &mut source, &mut sink)?, Status::Refused);
-    assert_eq!(rt; sink.at_puts.as_slice(), [76, 82, 95, 101].as_slice());
-    assert_eq!(rt; taken.get(), 105);
+    expect_end(
+        run_words(alloc, TRIAL, &mut source, &mut sink)?,
+        Status::Refused,
+    )?;
+    let mut counts = sink.at_puts;
+    counts.push(taken.get())?;
+    Ok(counts)
+}
+
+#[test]
+fn each_reply_is_out_before_the_next_line_is_taken(rt: HostRuntime) -> Result<(), Fail> {
+    let counts = taken_at_puts(rt.alloc(), &Cell::new(0))?;
+    assert!(rt; counts.as_slice() == TAKEN);
     Ok(())
 }
