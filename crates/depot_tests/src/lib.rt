@@ -13,4 +13,10 @@ mod descriptions;
 #[cfg(test)]
 mod meaning;
 #[cfg(test)]
+mod operations;
+#[cfg(test)]
+mod partitions;
+#[cfg(test)]
 mod streams;
+#[cfg(test)]
+mod texts;

@@ -1,11 +1,12 @@
 //! Values, versions and partitions, worked by hand.
 
-ghost use Rattle.std.specs.Prelude.{◌≡◌, ◌≤◌, ◌∷◌, [], IfOk, length};
+ghost use Rattle.std.specs.Prelude.{◌≡◌, ◌≤◌, ◌∷◌, ◌++◌, [], IfOk, OnOk, length};
 ghost use Rattle.table_desc.specs.Kinds.{kind_of};
 ghost use Rattle.partition_map.specs.Time.{IsWidth};
 ghost use Rattle.table_desc.specs.Sources.{HasEarlierSources, HasFittingSources, kind_sources};
 
-use depot_cell::{Cell, Op, Row, Str};
+use crate::texts::rows_text;
+use depot_cell::{Cell, Memory, Op, Row, Str};
 use partition_map::{Parts, parts_of_span};
 use std::alloc::Global;
 use std::test::Fail;
@@ -15,18 +16,24 @@ use view_meaning::{plain_value, plain_version, reached_keys};
 /// The span of just a partition's own ticks.
 const OWN_TICKS: Span = Span { lo: 0, hi: 0 };
 
-/// A table in partitions of so many ticks. It names no columns, since no call here looks at them.
-fn table(alloc: Global, ticks: u64, kind: Kind) -> Result<Table, Fail>
+/// Puts a table at the end, in partitions of so many ticks. It has no name and no columns, since no
+/// call here looks at them.
+fn push_table(alloc: Global, ticks: u64, kind: Kind, tables: &mut Vec<Table>) -> Result<(), Memory>
     requires { IsWidth ticks }
-    ensures width { IfOk result (λ table. table.width ≡ ticks) }
-    ensures kind { IfOk result (λ table. table.kind ≡ kind_of kind) }
+    ensures ok { OnOk result (tables.new.items ≡ tables.old.items ++ record {
+      name = [];
+      columns = [];
+      width = ticks;
+      kind = kind_of kind;
+    } ∷ []) }
 {
-    Ok(Table {
-        name: Str::from_bytes(alloc, b"sales")?,
+    tables.push(Table {
+        name: Str::from_bytes(alloc, b"")?,
         columns: Vec::new(alloc),
         width: Width::new(ticks),
         kind,
-    })
+    })?;
+    Ok(())
 }
 
 /// A source that is read over just the ticks of the view's partition.
@@ -40,47 +47,47 @@ fn source(table: u16) -> Src
 }
 
 /// The rows of the first table over a span, with an amount from 5 on: the amounts, with their days.
-fn large(alloc: Global, span: Span) -> Result<Kind, Fail>
+fn large(alloc: Global, span: Span) -> Result<Kind, Memory>
     ensures reads { IfOk result (λ kind.
         kind_sources (kind_of kind) ≡ record { table = 0; span = span } ∷ []) }
 {
-    let five = Cond {
+    let mut conds = Vec::new(alloc);
+    conds.push(Cond {
         column: 1,
         op: Op::Ge,
         value: Cell::Int(5),
-    };
+    })?;
     Ok(Kind::Filter {
         src: Src { table: 0, span },
-        conds: vec![in alloc; five]?,
-        keep: vec![in alloc; 1, 0]?,
+        conds,
+        keep: [1, 0].to_vec(alloc)?,
     })
 }
 
 /// Two raw tables in partitions of 10 and 5 ticks, with a day and an amount; a filter of the first
 /// in partitions of 20, a group of the filter, and a join of the filter with the second raw table
 /// in partitions of 60.
-fn views(alloc: Global) -> Result<Desc, Fail>
+fn views(alloc: Global) -> Result<Desc, Memory>
     ensures few { IfOk result (λ desc. length desc.tables ≤ 65_536) }
     ensures earlier { IfOk result HasEarlierSources }
     ensures fits { IfOk result HasFittingSources }
 {
+    let mut tables = Vec::new(alloc);
+    push_table(alloc, 10, Kind::Raw { feed: 0, time: 0 }, &mut tables)?;
+    push_table(alloc, 5, Kind::Raw { feed: 0, time: 0 }, &mut tables)?;
+    push_table(alloc, 20, large(alloc, OWN_TICKS)?, &mut tables)?;
     let group = Kind::Group {
         src: source(2),
         keys: Vec::new(alloc),
         aggs: Vec::new(alloc),
     };
+    push_table(alloc, 20, group, &mut tables)?;
     let join = Kind::Join {
         left: source(2),
         right: source(1),
         on: Vec::new(alloc),
     };
-    let tables = vec![in alloc;
-        table(alloc, 10, Kind::Raw { feed: 0, time: 0 })?,
-        table(alloc, 5, Kind::Raw { feed: 0, time: 0 })?,
-        table(alloc, 20, large(alloc, OWN_TICKS)?)?,
-        table(alloc, 20, group)?,
-        table(alloc, 60, join)?,
-    ]?;
+    push_table(alloc, 60, join, &mut tables)?;
     Ok(Desc {
         feeds: Vec::new(alloc),
         tables,
@@ -89,33 +96,42 @@ fn views(alloc: Global) -> Result<Desc, Fail>
 
 /// A raw table in partitions of 10 ticks, and a filter of it in partitions of 20, that reads from 20
 /// ticks before its own partition up to 10 ticks after it.
-fn windows(alloc: Global) -> Result<Desc, Fail>
+fn windows(alloc: Global) -> Result<Desc, Memory>
     ensures few { IfOk result (λ desc. length desc.tables ≤ 65_536) }
     ensures earlier { IfOk result HasEarlierSources }
     ensures fits { IfOk result HasFittingSources }
 {
-    let tables = vec![in alloc;
-        table(alloc, 10, Kind::Raw { feed: 0, time: 0 })?,
-        table(alloc, 20, large(alloc, Span { lo: -20, hi: 10 })?)?,
-    ]?;
+    let mut tables = Vec::new(alloc);
+    push_table(alloc, 10, Kind::Raw { feed: 0, time: 0 }, &mut tables)?;
+    push_table(
+        alloc,
+        20,
+        large(alloc, Span { lo: -20, hi: 10 })?,
+        &mut tables,
+    )?;
     Ok(Desc {
         feeds: Vec::new(alloc),
         tables,
     })
 }
 
+/// A row of a delivery, with a day and an amount.
+fn row(alloc: Global, table: u16, day: i64, amount: i64) -> Result<DRow, Memory> {
+    let mut cells = Row::new(alloc);
+    cells.push(Cell::Int(day))?;
+    cells.push(Cell::Int(amount))?;
+    Ok(DRow {
+        number: 1,
+        table,
+        cells,
+    })
+}
+
 /// A delivery of rows, each of a table, a day and an amount.
-fn delivery(alloc: Global, rows: &[(u16, i64, i64)]) -> Result<Delivery, Fail> {
+fn delivery(alloc: Global, rows: &[(u16, i64, i64)]) -> Result<Delivery, Memory> {
     let mut delivered = Vec::new(alloc);
-    for (table, day, amount) in rows {
-        let mut cells = Row::new(alloc);
-        cells.push(Cell::Int(*day))?;
-        cells.push(Cell::Int(*amount))?;
-        delivered.push(DRow {
-            number: 1,
-            table: *table,
-            cells,
-        })?;
+    for &(table, day, amount) in rows {
+        delivered.push(row(alloc, table, day, amount)?)?;
     }
     Ok(Delivery {
         feed: 0,
@@ -125,118 +141,157 @@ fn delivery(alloc: Global, rows: &[(u16, i64, i64)]) -> Result<Delivery, Fail> {
     })
 }
 
+/// Two deliveries.
+fn accepted(alloc: Global) -> Result<Vec<Delivery>, Memory> {
+    let mut deliveries = Vec::new(alloc);
+    deliveries.push(delivery(alloc, &[(0, 9, 7), (0, 12, 8), (1, 4, 1), (0, 5, 4)])?)?;
+    deliveries.push(delivery(alloc, &[(0, 10, 5), (0, -1, 9), (0, 1_099_511_627_776, 9)])?)?;
+    Ok(deliveries)
+}
+
 #[test]
-fn values_and_versions_follow_the_accepted_rows(rt: HostRuntime) -> Result<(), Fail> {
+fn values_follow_the_accepted_rows(rt: HostRuntime) -> Result<(), Fail> {
     let alloc = rt.alloc();
     let desc = views(alloc)?;
-    let accepted = vec![in alloc;
-        delivery(alloc, &[(0, 9, 7), (0, 12, 8), (1, 4, 1), (0, 5, 4)])?,
-        delivery(alloc, &[(0, 10, 5), (0, -1, 9), (0, 1_099_511_627_776, 9)])?,
-    ]?;
-    let first: [[i64; 2]; 2] = [[9, 7], [5, 4]];
-    let second: [[i64; 2]; 2] = [[12, 8], [10, 5]];
-    let other: [[i64; 2]; 1] = [[4, 1]];
-    let filtered: [[i64; 2]; 3] = [[7, 9], [8, 12], [5, 10]];
-    // Groups and joins have no rows yet, but they answer.
-    for (table, part, want, version) in [
-        (0, 0, &first[..], 1),
-        (0, 1, &second[..], 2),
-        (0, 109_951_162_777, &[], 0),
-        (1, 0, &other[..], 1),
-        (2, 0, &filtered[..], 0),
-        (2, u64::MAX, &[], 0),
-        (3, 0, &[], 0),
-        (4, 0, &[], 0),
-        (5, 0, &[], 0),
+    let accepted = accepted(alloc)?;
+    // The group has no keys and no aggregates, so its one row is empty.
+    for &(table, part, want) in &[
+        (0, 0, "9|7| 5|4| "),
+        (0, 1, "12|8| 10|5| "),
+        (0, 109_951_162_777, ""),
+        (1, 0, "4|1| "),
+        (2, 0, "7|9| 8|12| 5|10| "),
+        (2, u64::MAX, ""),
+        (3, 0, " "),
+        (4, 0, "7|9|4|1| 8|12|4|1| 5|10|4|1| "),
+        (5, 0, ""),
     ] {
-        let key = Key { table, part };
-        let value = plain_value(alloc, &desc, &accepted, key)?;
-        assert_eq!(rt; value.rows().len(), want.len(), "of {key:?}");
-        for (row, [left, right]) in value.rows().iter().zip(want) {
-            let cells = [Cell::Int(*left), Cell::Int(*right)];
-            assert_eq!(rt; row.cells(), &cells[..], "of {key:?}");
-        }
-        assert_eq!(rt; plain_version(&desc, &accepted, key), version, "of {key:?}");
+        let value = plain_value(alloc, &desc, &accepted, Key { table, part })?;
+        let text = rows_text(alloc, value.rows())?;
+        assert!(rt; text.as_slice() == want.as_bytes(), "of {table} {part}");
     }
     Ok(())
+}
+
+#[test]
+fn versions_follow_the_accepted_rows(rt: HostRuntime) -> Result<(), Fail> {
+    let alloc = rt.alloc();
+    let desc = views(alloc)?;
+    let accepted = accepted(alloc)?;
+    for &(table, part, version) in &[
+        (0, 0, 1),
+        (0, 1, 2),
+        (0, 109_951_162_777, 0),
+        (1, 0, 1),
+        (2, 0, 0),
+        (2, u64::MAX, 0),
+        (3, 0, 0),
+        (4, 0, 0),
+        (5, 0, 0),
+    ] {
+        let key = Key { table, part };
+        assert!(rt;
+            plain_version(&desc, &accepted, key) == version,
+            "of {key:?}"
+        );
+    }
+    Ok(())
+}
+
+/// Whether a delivery of rows reaches just these keys of views.
+fn are_reached(
+    alloc: Global,
+    desc: &Desc,
+    rows: &[(u16, i64, i64)],
+    want: &[(u16, u64)],
+) -> Result<bool, Memory>
+    requires few { length desc.now.tables ≤ 65_536 }
+    requires earlier { HasEarlierSources desc.now }
+    requires fits { HasFittingSources desc.now }
+{
+    let mut deliveries = Vec::new(alloc);
+    deliveries.push(delivery(alloc, rows)?)?;
+    let keys = reached_keys(alloc, desc, &deliveries)?;
+    let mut same = keys.len() == want.len();
+    for (key, &(table, part)) in keys.iter().zip(want) {
+        same = same && *key == Key { table, part };
+    }
+    Ok(same)
 }
 
 #[test]
 fn deliveries_reach_what_stands_above_their_rows(rt: HostRuntime) -> Result<(), Fail> {
     let alloc = rt.alloc();
-    let desc = views(alloc)?;
     // END is 54,975,581,388 times 20, and 16, and 18,325,193,796 times 60, and 16.
     let last: u64 = 54_975_581_388;
-    let of_one_row: [(u16, u64); 3] = [(2, 6), (3, 6), (4, 2)];
-    let in_order: [(u16, u64); 6] = [(2, 1), (2, 50), (3, 1), (3, 50), (4, 0), (4, 16)];
-    let right_only: [(u16, u64); 1] = [(4, 1)];
-    let of_last_tick: [(u16, u64); 3] = [(2, last), (3, last), (4, 18_325_193_796)];
-    let one: [(u16, i64, i64); 1] = [(0, 121, 0)];
-    let four: [(u16, i64, i64); 4] = [(0, 1_000, 0), (0, 39, 0), (0, 20, 0), (0, 1_009, 0)];
-    let right: [(u16, i64, i64); 1] = [(1, 60, 0)];
-    let latest: [(u16, i64, i64); 1] = [(0, 1_099_511_627_775, 0)];
-    let nowhere: [(u16, i64, i64); 4] = [
-        (0, -1, 0),
-        (0, 1_099_511_627_776, 0),
-        (2, 5, 0),
-        (9, 5, 0),
-    ];
-    for (rows, want) in [
-        (&one[..], &of_one_row[..]),
-        (&four[..], &in_order[..]),
-        (&right[..], &right_only[..]),
-        (&latest[..], &of_last_tick[..]),
-        (&nowhere[..], &[]),
-    ] {
-        let deliveries = vec![in alloc; delivery(alloc, rows)?]?;
-        let reached = reached_keys(alloc, &desc, &deliveries)?;
-        assert_eq!(rt; reached.len(), want.len());
-        for (key, (table, part)) in reached.iter().zip(want) {
-            assert_eq!(rt; (key.table, key.part), (*table, *part));
-        }
-    }
+    let desc = views(alloc)?;
+    assert!(rt; are_reached(alloc, &desc, &[(0, 121, 0)], &[(2, 6), (3, 6), (4, 2)])?);
+    assert!(rt;
+        are_reached(
+            alloc,
+            &desc,
+            &[(0, 1_000, 0), (0, 39, 0), (0, 20, 0), (0, 1_009, 0)],
+            &[(2, 1), (2, 50), (3, 1), (3, 50), (4, 0), (4, 16)]
+        )?
+    );
+    assert!(rt; are_reached(alloc, &desc, &[(1, 60, 0)], &[(4, 1)])?);
+    assert!(rt;
+        are_reached(
+            alloc,
+            &desc,
+            &[(0, 1_099_511_627_775, 0)],
+            &[(2, last), (3, last), (4, 18_325_193_796)]
+        )?
+    );
+    assert!(rt;
+        are_reached(
+            alloc,
+            &desc,
+            &[(0, -1, 0), (0, 1_099_511_627_776, 0), (2, 5, 0), (9, 5, 0)],
+            &[]
+        )?
+    );
     Ok(())
 }
 
 #[test]
-fn views_reach_and_read_ticks_around_their_own(rt: HostRuntime) -> Result<(), Fail> {
+fn views_reach_ticks_around_their_own(rt: HostRuntime) -> Result<(), Fail> {
     let alloc = rt.alloc();
-    let desc = windows(alloc)?;
     // END is 54,975,581,388 times 20, and 16. The number after the last partition's would read the
     // last ticks too, but it is that of no partition.
     let last: u64 = 54_975_581_388;
-    let of_first: [u64; 2] = [0, 1];
-    let of_one: [u64; 3] = [5, 6, 7];
-    let of_last: [u64; 1] = [last];
-    for (day, want) in [
-        (5, &of_first[..]),
-        (121, &of_one[..]),
-        (1_099_511_627_775, &of_last[..]),
-    ] {
-        let deliveries = vec![in alloc; delivery(alloc, &[(0, day, 0)])?]?;
-        let reached = reached_keys(alloc, &desc, &deliveries)?;
-        assert!(rt; reached.len() == want.len());
-        for (key, part) in reached.iter().zip(want) {
-            assert!(rt; key.table == 1 && key.part == *part);
-        }
-    }
-    let accepted = vec![in alloc;
-        delivery(alloc, &[(0, 100, 5), (0, 149, 6), (0, 99, 7), (0, 150, 8)])?,
-    ]?;
-    let value = plain_value(alloc, &desc, &accepted, Key { table: 1, part: 6 })?;
-    let want: [[i64; 2]; 2] = [[5, 100], [6, 149]];
-    assert!(rt; value.rows().len() == want.len());
-    for (row, [amount, day]) in value.rows().iter().zip(&want) {
-        let cells = [Cell::Int(*amount), Cell::Int(*day)];
-        assert!(rt; row.cells() == &cells[..]);
-    }
+    let desc = windows(alloc)?;
+    assert!(rt; are_reached(alloc, &desc, &[(0, 5, 0)], &[(1, 0), (1, 1)])?);
+    assert!(rt; are_reached(alloc, &desc, &[(0, 121, 0)], &[(1, 5), (1, 6), (1, 7)])?);
+    assert!(rt; are_reached(alloc, &desc, &[(0, 1_099_511_627_775, 0)], &[(1, last)])?);
     Ok(())
+}
+
+#[test]
+fn views_read_ticks_around_their_own(rt: HostRuntime) -> Result<(), Fail> {
+    let alloc = rt.alloc();
+    let desc = windows(alloc)?;
+    let mut accepted = Vec::new(alloc);
+    accepted.push(delivery(alloc, &[(0, 100, 5), (0, 149, 6), (0, 99, 7), (0, 150, 8)])?)?;
+    let value = plain_value(alloc, &desc, &accepted, Key { table: 1, part: 6 })?;
+    let text = rows_text(alloc, value.rows())?;
+    assert!(rt; text.as_slice() == b"5|100| 6|149| ".as_slice());
+    Ok(())
+}
+
+/// The partitions of a span, if time has it.
+fn run_of(ticks: u64, from: u64, to: u64) -> Option<Parts> {
+    if 1 <= ticks && ticks <= END && from <= to && to <= END {
+        Some(parts_of_span(Width::new(ticks), from, to))
+    } else {
+        None
+    }
 }
 
 #[test]
 fn partitions_of_a_span_are_a_run(rt: HostRuntime) {
     // END is 157,073,089,682 times 7, and 2.
-    for (width, from, to, first, count) in [
+    for &(width, from, to, first, count) in &[
         (10, 0, 20, 0, 2),
         (10, 5, 5, 0, 0),
         (10, 9, 11, 0, 2),
@@ -244,10 +299,8 @@ fn partitions_of_a_span_are_a_run(rt: HostRuntime) {
         (END, 0, END, 0, 1),
         (7, 1_099_511_627_773, END, 157_073_089_681, 2),
     ] {
-        assert!(rt; 1 <= width && width <= END && from <= to && to <= END);
-        assert_eq!(rt;
-            parts_of_span(Width::new(width), from, to),
-            Parts { first, count },
+        assert!(rt;
+            run_of(width, from, to) == Some(Parts { first, count }),
             "at {from}"
         );
     }

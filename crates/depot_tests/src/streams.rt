@@ -9,10 +9,10 @@ use std::io;
 use std::io::Write;
 use std::test::Fail;
 
-fn reader_of(alloc: Global, bytes: &[u8]) -> Result<LineReader<NeverSource>, Fail> {
+fn reader_of(alloc: Global, bytes: &[u8]) -> Result<LineReader<NeverSource>, Memory> {
     match LineReader::new(alloc, NeverSource::new(bytes.to_vec(alloc)?)) {
         Ok(reader) => Ok(reader),
-        Err((_, Memory)) => Err(Fail::from(Memory)),
+        Err((_, Memory)) => Err(Memory),
     }
 }
 
@@ -32,94 +32,141 @@ fn lines_of(alloc: Global, bytes: &[u8]) -> Result<Vec<u8>, Fail> {
 
 #[test]
 fn one_cr_is_dropped_before_an_lf_alone(rt: HostRuntime) -> Result<(), Fail> {
-    let alloc = rt.alloc();
-    let cases: [(&[u8], &[u8]); 7] = [
-        (b"", b""),
-        (b"\n", b"|"),
-        (b"go\nend\n", b"go|end|"),
-        (b"go\r\nend\r\n", b"go|end|"),
-        (b"go\r\r\nend", b"go\r|end|"),
-        (b"\r\n\rgo\r", b"|\rgo\r|"),
-        (b"g\ro\n\n", b"g\ro||"),
-    ];
-    for (input, want) in cases {
-        let seen = lines_of(alloc, input)?;
-        assert_eq!(rt; seen.as_slice(), want);
+    for &(input, want) in &[
+        ("", ""),
+        ("\n", "|"),
+        ("go\nend\n", "go|end|"),
+        ("go\r\nend\r\n", "go|end|"),
+        ("go\r\r\nend", "go\r|end|"),
+        ("\r\n\rgo\r", "|\rgo\r|"),
+        ("g\ro\n\n", "g\ro||"),
+    ] {
+        let seen = lines_of(rt.alloc(), input.as_bytes())?;
+        assert!(rt; seen.as_slice() == want.as_bytes(), "at {input:?}");
     }
     Ok(())
 }
 
+/// What is read as the first line, if a byte comes so often and then an end.
+fn long_line(alloc: Global, count: usize, end: &[u8]) -> Result<Result<Line, LineFault>, Memory> {
+    let mut bytes = vec![in alloc; b'a'; count]?;
+    bytes.extend_from_slice(end)?;
+    Ok(reader_of(alloc, &bytes)?.next_line())
+}
+
 #[test]
 fn a_line_has_at_most_4_096_bytes(rt: HostRuntime) -> Result<(), Fail> {
-    let alloc = rt.alloc();
-    let cases: [(usize, &[u8], Result<Line, LineFault>); 5] = [
-        (4_096, b"\n", Ok(Line::Text { len: 4_096 })),
-        (4_096, b"", Ok(Line::Text { len: 4_096 })),
-        (4_095, b"\r\n", Ok(Line::Text { len: 4_095 })),
-        (4_096, b"\r\n", Err(LineFault::LongLine)),
-        (4_097, b"\n", Err(LineFault::LongLine)),
-    ];
-    for (count, end, want) in cases {
-        let mut bytes = vec![in alloc; b'a'; count]?;
-        bytes.extend_from_slice(end)?;
-        let mut reader = reader_of(alloc, &bytes)?;
-        assert_eq!(rt; reader.next_line(), want);
+    for &(count, end, want) in &[
+        (4_096, "\n", Ok(Line::Text { len: 4_096 })),
+        (4_096, "", Ok(Line::Text { len: 4_096 })),
+        (4_095, "\r\n", Ok(Line::Text { len: 4_095 })),
+        (4_096, "\r\n", Err(LineFault::LongLine)),
+        (4_097, "\n", Err(LineFault::LongLine)),
+    ] {
+        let line = long_line(rt.alloc(), count, end.as_bytes())?;
+        assert!(rt; line == want, "at {count} and {end:?}");
     }
     Ok(())
+}
+
+/// What of a line and a body is seen.
+#[derive(Drop)]
+struct Seen {
+    ended: Result<(), LineFault>,
+    body: Vec<u8>,
+    /// Whether the line is still there, with so many bytes taken as it and the body have.
+    is_kept: bool,
+}
+
+/// Reads the line `ab` of a source, and then a body of so many bytes.
+fn read_body(alloc: Global, source: &mut VecSource, size: u64) -> Result<Seen, Memory> {
+    let Ok(mut reader) = LineReader::new(alloc, source) else {
+        return Err(Memory);
+    };
+    let mut body = Vec::new(alloc);
+    let is_line = reader.next_line() == Ok(Line::Text { len: 2 });
+    let ended = reader.take_exact(size, &mut body);
+    let is_kept = is_line
+        && reader.line() == b"ab".as_slice()
+        && reader.taken() == 3 + body.len() as u64;
+    Ok(Seen {
+        ended,
+        body,
+        is_kept,
+    })
 }
 
 #[test]
 fn a_body_ends_at_a_fault_or_the_end(rt: HostRuntime) -> Result<(), Fail> {
     let alloc = rt.alloc();
     // Which call fails, how many bytes are asked for, and what of them is there.
-    let cases: [(u64, u64, Result<(), LineFault>, &[u8]); 5] = [
-        (0, 4, Ok(()), b"body"),
-        (0, 0, Ok(()), b""),
-        (0, 5, Err(LineFault::Cut), b"body"),
-        (4, 4, Err(LineFault::ReadFault), b""),
-        (5, 5, Err(LineFault::ReadFault), b"body"),
-    ];
-    for (call, size, want, held) in cases {
-        let fails = vec![in alloc; call; 1]?;
-        let mut source = VecSource::new(b"ab\nbody".to_vec(alloc)?, fails);
-        let Ok(mut reader) = LineReader::new(alloc, &mut source) else {
-            return Err(Fail::from(Memory));
-        };
-        let mut body = Vec::new(alloc);
-        assert_eq!(rt; reader.next_line(), Ok(Line::Text { len: 2 }));
-        assert_eq!(rt; reader.take_exact(size, &mut body), want);
-        assert_eq!(rt; body.as_slice(), held);
-        assert_eq!(rt; reader.line(), b"ab".as_slice());
-        assert_eq!(rt; reader.taken(), 3 + held.len() as u64);
-        let rest = reader.into_source().take(&mut [0; 8]);
-        assert_eq!(rt; rest, Ok(4 - held.len()));
+    for &(call, size, want, held) in &[
+        (0, 4, Ok(()), "body"),
+        (0, 0, Ok(()), ""),
+        (0, 5, Err(LineFault::Cut), "body"),
+        (4, 4, Err(LineFault::ReadFault), ""),
+        (5, 5, Err(LineFault::ReadFault), "body"),
+    ] {
+        let mut source = VecSource::new(b"ab\nbody".to_vec(alloc)?, [call].to_vec(alloc)?);
+        let seen = read_body(alloc, &mut source, size)?;
+        let rest = source.take(&mut [0; 8]);
+        assert!(rt;
+            seen.ended == want && seen.is_kept,
+            "of call {call} and size {size}"
+        );
+        assert!(rt; seen.body.as_slice() == held.as_bytes());
+        assert!(rt; rest == Ok(4 - held.len()));
+    }
+    Ok(())
+}
+
+/// Which of `one`, `two` and `three` a sink takes, and what it got.
+fn put_words(
+    alloc: Global,
+    room: usize,
+    call: u64,
+) -> Result<([Result<(), WriteFault>; 3], VecSink), Memory> {
+    let mut sink = VecSink::new(alloc, room, [call].to_vec(alloc)?)?;
+    let one = put_all(&mut sink, b"one");
+    let two = put_all(&mut sink, b"two");
+    let three = put_all(&mut &mut sink, b"three");
+    Ok(([one, two, three], sink))
+}
+
+#[test]
+fn a_sink_takes_what_fits(rt: HostRuntime) -> Result<(), Fail> {
+    let (put, fault) = (Ok(()), Err(WriteFault));
+    // The room, which call fails, and which words are put of `one`, `two` and `three`.
+    for &(room, call, wants, got) in &[
+        (11, 0, [put, put, put], "onetwothree"),
+        (10, 0, [put, put, fault], "onetwo"),
+        (11, 1, [fault, put, put], "twothree"),
+        (11, 3, [put, put, fault], "onetwo"),
+        (2, 0, [fault, fault, fault], ""),
+    ] {
+        let (puts, sink) = put_words(rt.alloc(), room, call)?;
+        assert!(rt; puts == wants, "with room {room} and call {call}");
+        assert!(rt;
+            sink.bytes() == got.as_bytes(),
+            "with room {room} and call {call}"
+        );
     }
     Ok(())
 }
 
 #[test]
-fn a_sink_takes_what_fits(rt: HostRuntime) -> Result<(), Fail> {
+fn a_reader_is_read_ahead(rt: HostRuntime) -> Result<(), Fail> {
     let alloc = rt.alloc();
-    // The room, which call fails, and which words are put of `one`, `two` and `three`.
-    let cases: [(usize, u64, [Result<(), WriteFault>; 3], &[u8]); 5] = [
-        (11, 0, [Ok(()), Ok(()), Ok(())], b"onetwothree"),
-        (10, 0, [Ok(()), Ok(()), Err(WriteFault)], b"onetwo"),
-        (11, 1, [Err(WriteFault), Ok(()), Ok(())], b"twothree"),
-        (11, 3, [Ok(()), Ok(()), Err(WriteFault)], b"onetwo"),
-        (
-            2,
-            0,
-            [Err(WriteFault), Err(WriteFault), Err(WriteFault)],
-            b"",
-        ),
-    ];
-    for (room, call, wants, got) in cases {
-        let mut sink = VecSink::new(alloc, room, vec![in alloc; call; 1]?)?;
-        assert_eq!(rt; put_all(&mut sink, b"one"), wants[0]);
-        assert_eq!(rt; put_all(&mut sink, b"two"), wants[1]);
-        assert_eq!(rt; put_all(&mut &mut sink, b"three"), wants[2]);
-        assert_eq!(rt; sink.bytes(), got);
+    // 10,000 bytes are taken by three at a time, and then at once.
+    let bytes = vec![in alloc; b'a'; 10_000]?;
+    let mut rest = vec![in alloc; 0; 10_000]?;
+    let mut source = ReadAhead::over(bytes.as_slice());
+    for _ in 0..300 {
+        assert!(rt; source.take(&mut [0; 3]) == Ok(3));
     }
+    assert!(rt; source.take(&mut rest) == Ok(8_192 - 900));
+    assert!(rt; source.take(&mut rest) == Ok(10_000 - 8_192));
+    assert!(rt; source.take(&mut rest) == Ok(0));
     Ok(())
 }
 
@@ -146,33 +193,29 @@ impl Write for Short {
 }
 
 #[test]
-fn readers_and_writers_are_adapted(rt: HostRuntime) -> Result<(), Fail> {
-    let alloc = rt.alloc();
-    // 10,000 bytes are taken by three at a time, and then at once.
-    let bytes = vec![in alloc; b'a'; 10_000]?;
-    let mut source = ReadAhead::over(bytes.as_slice());
-    let mut piece = [0; 3];
-    for _ in 0..300 {
-        assert_eq!(rt; source.take(&mut piece), Ok(3));
-    }
-    let mut rest = vec![in alloc; 0; 10_000]?;
-    assert_eq!(rt; source.take(&mut rest), Ok(8_192 - 900));
-    assert_eq!(rt; source.take(&mut rest), Ok(10_000 - 8_192));
-    assert_eq!(rt; source.take(&mut rest), Ok(0));
+fn a_writer_gets_all_or_what_it_takes(rt: HostRuntime) -> Result<(), Fail> {
+    let mut got = Vec::new(rt.alloc());
+    assert!(rt; put_all(&mut PutTo::over(&mut got), b"all").is_ok());
+    assert!(rt; got.as_slice() == b"all".as_slice());
+    Ok(())
+}
 
-    let mut got = Vec::new(alloc);
-    assert_eq!(rt; put_all(&mut PutTo::over(&mut got), b"all"), Ok(()));
-    assert_eq!(rt; got.as_slice(), b"all".as_slice());
+#[test]
+fn a_writer_that_takes_nothing_fails(rt: HostRuntime) -> Result<(), Fail> {
     let mut short = Short {
-        got: Vec::new(alloc),
+        got: Vec::new(rt.alloc()),
     };
     let mut sink = PutTo::over(&mut short);
-    assert_eq!(rt; sink.put(b"abc"), Ok(2));
-    assert_eq!(rt; put_all(&mut sink, b"cdefg"), Err(WriteFault));
-    assert_eq!(rt; sink.put(b""), Ok(0));
-    assert_eq!(rt; sink.put(b"h"), Err(Failed));
-    assert_eq!(rt; short.got.as_slice(), b"abcdef".as_slice());
+    assert!(rt; sink.put(b"abc") == Ok(2));
+    assert!(rt; put_all(&mut sink, b"cdefg") == Err(WriteFault));
+    assert!(rt; sink.put(b"") == Ok(0));
+    assert!(rt; sink.put(b"h") == Err(Failed));
+    assert!(rt; short.got.as_slice() == b"abcdef".as_slice());
+    Ok(())
+}
 
+#[test]
+fn the_standard_streams_are_adapted(rt: HostRuntime) -> Result<(), Fail> {
     let _source = StdSource::new(&rt);
     put_all(&mut StdSink::new(&rt), b"put\n")?;
     Ok(())
