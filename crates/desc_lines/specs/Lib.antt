@@ -1,0 +1,11 @@
+pub mod Names
+pub mod Words
+pub mod Written
+pub mod WrittenKinds
+pub mod WrittenLines
+pub mod Cuts
+pub mod Lines
+pub mod LineTexts
+pub mod Whole
+pub mod Texts
+pub mod Laws

@@ -1,0 +1,16 @@
+//! The lines of a description: which words say what, and the text that writes them.
+//!
+//! A line declares a feed or a table, in one of five shapes. Here it is taken apart into words, and
+//! a line is written from them. No name is looked up and no number is read: that is left to those
+//! who know what was declared before.
+#![tactic(auto)]
+
+mod fun;
+mod kind;
+mod line;
+mod parts;
+
+pub use fun::Fun;
+pub use kind::WrittenKind;
+pub use line::{WrittenLine, WrittenTable};
+pub use parts::{WrittenAgg, WrittenColumn, WrittenCond, WrittenPair, WrittenSource};
