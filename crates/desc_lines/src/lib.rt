@@ -7,10 +7,15 @@
 
 mod fun;
 mod kind;
+mod laws;
 mod line;
 mod parts;
 
 pub use fun::Fun;
 pub use kind::WrittenKind;
+pub use laws::{
+    lines_are_cut_into_words, spaced_words_are_cut_again, texts_have_the_written_lines,
+    words_are_those_of_what_they_say, written_words_say_the_line,
+};
 pub use line::{WrittenLine, WrittenTable};
 pub use parts::{WrittenAgg, WrittenColumn, WrittenCond, WrittenPair, WrittenSource};
