@@ -1,6 +1,7 @@
 -- Words that say aggregates are the words of these aggregates, and each is whole.
 use Rattle.std.proofs.Common.{◌≡◌, ◌∙◌, ℕ, List, [], ◌∷◌, ◌++◌, Some, codes, refl, sym}
 use Rattle.std.proofs.Common.{ap, ap₂, subst, flat_map}
+use Rattle.std.proofs.Common.{Bor, ◌<◌, length, map, arith, None}
 use Rattle.std.specs.List.{AllByRecursion}
 use Rattle.std.proofs.lemmas.Option.{option_and_then_some, same_Some}
 use Rattle.desc_lines.specs.Written.{WrittenAggOf}
@@ -79,3 +80,11 @@ each_agg_of-some (word ∷ before_name ∷ name ∷ words) aggs said =
       each = (here.1, more.each);
     }
 each_agg_of-some _ aggs said = absurd cc
+
+-- one word or two say no aggregates
+pub each_agg_of-none : (words : List (Bor (List ℕ))) → 0 < length words → length words < 3
+    → each_agg_of (map (λ word. word.now) words) ≡ None
+each_agg_of-none [] some few = absurd (omega arith)
+each_agg_of-none (_ ∷ []) some few = refl
+each_agg_of-none (_ ∷ _ ∷ []) some few = refl
+each_agg_of-none (_ ∷ _ ∷ _ ∷ others) some few = absurd (omega arith)

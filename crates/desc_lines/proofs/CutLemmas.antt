@@ -3,6 +3,8 @@ use Rattle.std.proofs.Common.{◌≡◌, ℕ, suc, ◌+◌, List, [], ◌∷◌,
 use Rattle.std.proofs.Common.{true, false, cond, not, refl, ap, subst, length, nat_lt, take, drop}
 use Rattle.std.proofs.Common.{arith, tests, lt-ltb, option_map}
 use Rattle.std.specs.Prelude.{if◌then◌else◌}
+use Rattle.std.proofs.Common.{Bor, Option, map, position}
+use Rattle.std.proofs.lemmas.List.{drop-map, take-map}
 use Rattle.std.specs.List.{AllByRecursion, position_or_len}
 use Rattle.std.proofs.lemmas.Option.{same_Some}
 use Rattle.desc_lines.specs.Cuts.{cut_at}
@@ -92,3 +94,39 @@ cut_at-some {X} is_cut (first ∷ others) front back cut =
         (front, back) cut (λ parts there made. subst (λ (parts : List X × List X).
         IsCut is_cut (first ∷ others) parts.0 parts.1) made
         (one_more parts (deeper parts.0 parts.1 there) here))
+
+-- the first item that passes is at the place of the first one whose image does
+position_or_len-map : {X Y : Type 0} (f : X → Y) (is_cut : Y → Bool) (items : List X)
+    → position_or_len is_cut (map f items) ≡ position_or_len (λ item. is_cut (f item)) items
+position_or_len-map f is_cut [] = refl
+position_or_len-map f is_cut (first ∷ others) =
+    ap (λ place. cond (not (is_cut (f first))) (1 + place) 0) (position_or_len-map f is_cut others)
+
+length-map : {X Y : Type 0} (f : X → Y) (items : List X) → length (map f items) ≡ length items
+length-map f [] = refl
+length-map f (first ∷ others) = ap suc (length-map f others)
+
+-- a list of images is cut where the list is
+cut_at-map : {X Y : Type 0} (f : X → Y) (is_cut : Y → Bool) (items : List X)
+    → cut_at is_cut (map f items)
+    ≡ option_map (λ place. (map f (take place items), map f (drop (place + 1) items)))
+    (position (λ item. is_cut (f item)) items)
+cut_at-map {Y = Y} f is_cut items = rw (position_or_len-map f is_cut items, length-map f items)
+    (by_place (position (λ item. is_cut (f item)) items))
+  where
+    by_place : (found : Option ℕ)
+        → option_map {U = List Y × List Y}
+        (λ place. (take place (map f items), drop (place + 1) (map f items))) found
+        ≡ option_map (λ place. (map f (take place items), map f (drop (place + 1) items))) found
+    by_place None = refl
+    by_place (Some place) = rw (take-map f place items, drop-map f (place + 1) items) refl
+
+-- so it is with words that are borrowed
+pub cut_at_words : (is_cut : List ℕ → Bool) (words : List (Bor (List ℕ)))
+    → cut_at is_cut (map (λ word. word.now) words)
+    ≡ option_map (λ place. (
+      map (λ word. word.now) (take place words),
+      map (λ word. word.now) (drop (place + 1) words),
+    ))
+    (position (λ word. is_cut word.now) words)
+cut_at_words is_cut words = cut_at-map (λ word. word.now) is_cut words

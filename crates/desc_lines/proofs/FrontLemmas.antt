@@ -1,5 +1,5 @@
 -- Lists that are there as a whole: what each word says, and which words say it.
-use Rattle.std.proofs.Common.{◌≡◌, ◌∙◌, ◌<◌, ℕ, List, [], ◌∷◌, Option, Some, None, refl, sym, ap, ap₂}
+use Rattle.std.proofs.Common.{Bor, append_assoc, ◌++◌, ◌≡◌, ◌∙◌, ◌<◌, ℕ, List, [], ◌∷◌, Option, Some, None, refl, sym, ap, ap₂}
 use Rattle.std.proofs.Common.{subst, map, length, arith}
 use Rattle.std.specs.List.{AllByRecursion}
 use Rattle.std.proofs.lemmas.Option.{same_Some}
@@ -65,3 +65,25 @@ pub some-of_words : {X Y : Type 0} (words_of : List X → List Y) (items : List 
 some-of_words words_of [] words none same some =
     absurd (omega (arith, some, ap length (sym none ∙ same)))
 some-of_words words_of (first ∷ others) words none same some = omega arith
+
+-- what is said if words are some is said of words that are
+pub some_words_say : {Y : Type 0} (words : List (Bor (List ℕ))) (said : Option Y)
+    → 0 < length words → if_some (map (λ word. word.now) words) said ≡ said
+some_words_say [] said some = absurd (omega (arith, some))
+some_words_say (first ∷ others) said some = refl
+
+-- more after a front, if there is more
+abbrev pub with_front : {X : Type 0} → List X → Option (List X) → Option (List X)
+with_front front None = None
+with_front front (Some others) = Some (front ++ others)
+
+-- nothing before a list is that list
+pub with_front-empty : {X : Type 0} (rest : Option (List X)) → with_front [] rest ≡ rest
+with_front-empty None = refl
+with_front-empty (Some rest) = refl
+
+-- the first of the rest goes to the front
+pub with_front-push : {X : Type 0} (front : List X) (first : X) (rest : Option (List X))
+    → with_front front (with_first (Some first) rest) ≡ with_front (front ++ first ∷ []) rest
+with_front-push front first None = refl
+with_front-push front first (Some rest) = ap Some (sym (append_assoc front (first ∷ []) rest))

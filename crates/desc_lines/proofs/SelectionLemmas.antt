@@ -1,7 +1,10 @@
 -- Words that say a selection are those of its conditions and its columns.
 use Rattle.std.proofs.Common.{◌≡◌, ◌<◌, ◌∙◌, ℕ, List, [], ◌∷◌, ◌++◌, Option, Some, None, codes, refl}
 use Rattle.std.proofs.Common.{sym, ap, ap₂, subst, length, arith}
+use Rattle.std.specs.Prelude.{if◌then◌else◌}
 use Rattle.std.proofs.lemmas.Option.{same_Some}
+use Rattle.desc_lines.specs.Cuts.{if_some}
+use Rattle.std.proofs.Common.{◌≤◌, Bor, Bool, get_or, drop, map, bytes_eq, true, false, append_assoc}
 use Rattle.desc_lines.specs.Written.{WrittenCondOf}
 use Rattle.desc_lines.specs.Lines.{SelectionOf, cond_of, last_cond, more_cond, selection_of}
 use Rattle.desc_lines.specs.LineTexts.{cond_words, conds_words}
@@ -79,3 +82,70 @@ selection_of-some (column ∷ op ∷ literal ∷ next ∷ words) selection said 
     (λ others more. selection_of-some words others more) said))
     (λ said. absurd cc))
 selection_of-some _ selection said = absurd cc
+
+-- conditions before those of a selection, if there is one
+abbrev pub with_conds : List WrittenCondOf → Option SelectionOf → Option SelectionOf
+with_conds front None = None
+with_conds front (Some selection) = Some (record selection { conds = front ++ selection.conds })
+
+-- the first condition of the rest goes to the front
+with_conds-push : (front : List WrittenCondOf) (cond : WrittenCondOf) (rest : Option SelectionOf)
+    → with_conds front (more_cond (Some cond) rest) ≡ with_conds (front ++ cond ∷ []) rest
+with_conds-push front cond None = refl
+with_conds-push front cond (Some rest) =
+    ap (λ (conds : List WrittenCondOf). Some (record rest { conds = conds }))
+    (sym (append_assoc front (cond ∷ []) rest.conds))
+
+-- fewer than four words say no selection
+pub selection_of-none : (words : List (Bor (List ℕ))) → length words < 4
+    → selection_of (map (λ word. word.now) words) ≡ None
+selection_of-none (_ ∷ _ ∷ _ ∷ _ ∷ others) few = absurd (omega arith)
+selection_of-none _ few = refl
+
+-- a condition with more after it
+pub selection_of-step : (words : List (Bor (List ℕ))) (default : Bor (List ℕ))
+    (front : List WrittenCondOf) (cond : WrittenCondOf)
+    → 4 ≤ length words
+    → Some cond ≡ cond_of (get_or words 0 default).now (get_or words 1 default).now
+    (get_or words 2 default).now
+    → bytes_eq (get_or words 3 default).now (codes "keep") ≡ false
+    → bytes_eq (get_or words 3 default).now (codes "and") ≡ true
+    → with_conds front (selection_of (map (λ word. word.now) words))
+    ≡ with_conds (front ++ cond ∷ []) (selection_of (map (λ word. word.now) (drop 4 words)))
+selection_of-step (_ ∷ _ ∷ _ ∷ _ ∷ others) default front cond enough said last more =
+    rw (last, more, ← said) (with_conds-push front cond _)
+selection_of-step _ default front cond enough said last more = absurd (omega arith)
+
+-- words that begin with no condition say no selection
+pub selection_of-no_cond : (words : List (Bor (List ℕ))) (default : Bor (List ℕ))
+    → 4 ≤ length words
+    → cond_of (get_or words 0 default).now (get_or words 1 default).now
+    (get_or words 2 default).now ≡ None
+    → selection_of (map (λ word. word.now) words) ≡ None
+selection_of-no_cond (column ∷ op ∷ literal ∷ next ∷ others) default enough none =
+    rw none (by_word (bytes_eq next.now (codes "keep")) (bytes_eq next.now (codes "and")) others)
+  where
+    by_word : (last more : Bool) (keep : List (Bor (List ℕ)))
+        → (if last then last_cond None (map (λ word. word.now) keep)
+        else if more then more_cond None (selection_of (map (λ word. word.now) others)) else None)
+        ≡ None
+    by_word true more [] = refl
+    by_word true more (first ∷ keep) = refl
+    by_word false true keep = refl
+    by_word false false keep = refl
+selection_of-no_cond _ default enough none = absurd (omega arith)
+
+-- a last condition with the kept columns
+pub selection_of-last : (words : List (Bor (List ℕ))) (default : Bor (List ℕ))
+    (front : List WrittenCondOf) (cond : WrittenCondOf)
+    → 4 ≤ length words
+    → Some cond ≡ cond_of (get_or words 0 default).now (get_or words 1 default).now
+    (get_or words 2 default).now
+    → bytes_eq (get_or words 3 default).now (codes "keep") ≡ true
+    → with_conds front (selection_of (map (λ word. word.now) words))
+    ≡ if_some (drop 4 words)
+    (Some (record { conds = front ++ cond ∷ []; keep = map (λ word. word.now) (drop 4 words) }))
+selection_of-last (_ ∷ _ ∷ _ ∷ _ ∷ []) default front cond enough said last = rw last refl
+selection_of-last (_ ∷ _ ∷ _ ∷ _ ∷ first ∷ keep) default front cond enough said last =
+    rw (last, ← said) refl
+selection_of-last _ default front cond enough said last = absurd (omega arith)

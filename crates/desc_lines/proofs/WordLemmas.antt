@@ -66,7 +66,7 @@ filter-each {X} P Q test (first ∷ others) follows each =
     by_test false here more = more
 
 -- what is so of each item anyway
-each-always : {X : Type 0} (P : X → Type 0) (items : List X) → ((item : X) → P item)
+pub each-always : {X : Type 0} (P : X → Type 0) (items : List X) → ((item : X) → P item)
     → AllByRecursion P items
 each-always P [] always = tt
 each-always P (first ∷ others) always = (always first, each-always P others always)

@@ -1,7 +1,7 @@
 -- The reading of lines and their writing are one language.
 use Rattle.std.specs.Prelude.{ℕ, ◌≡◌, List, [], ◌∷◌, ◌++◌, Some, map, flat_map}
 use Rattle.std.specs.List.{AllByRecursion}
-use Rattle.desc_lines.specs.Words.{IsWord, spaced, words}
+use Rattle.desc_lines.specs.Words.{IsWord, Lacks, spaced, words}
 use Rattle.desc_lines.specs.Written.{WrittenLineOf}
 use Rattle.desc_lines.specs.Lines.{line_of}
 use Rattle.desc_lines.specs.LineTexts.{line_text, line_words}
@@ -35,3 +35,7 @@ abbrev pub HasWrittenLines : Type 0
 HasWrittenLines = (lines : List WrittenLineOf)
     → AllByRecursion (λ line. AreLineWords (line_words line)) lines
     → lines_of (flat_map line_text lines) ≡ map (λ line. spaced (line_words line)) lines ++ [] ∷ []
+
+-- no line of a text has an LF
+abbrev pub CutsIntoLines : Type 0
+CutsIntoLines = (text : List ℕ) → AllByRecursion (Lacks 10) (lines_of text)

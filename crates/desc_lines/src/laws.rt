@@ -1,6 +1,7 @@
 //! Laws: reading lines and writing them are one language.
 
-ghost use Rattle.desc_lines.specs.Laws.{CutsIntoWords, CutsWhatIsSpaced, HasWrittenLines};
+ghost use Rattle.desc_lines.specs.Laws.{CutsIntoLines, CutsIntoWords, CutsWhatIsSpaced};
+ghost use Rattle.desc_lines.specs.Laws.{HasWrittenLines};
 ghost use Rattle.desc_lines.specs.Laws.{SaysWhatIsWritten, WritesWhatIsSaid};
 
 /// A law: the words of a line that is whole say this line.
@@ -26,4 +27,9 @@ pub fn lines_are_cut_into_words()
 /// A law: the lines of a text are those that were written to it, and an empty one at its end.
 pub fn texts_have_the_written_lines()
     ensures law { HasWrittenLines }
+{}
+
+/// A law: no line of a text has an LF.
+pub fn texts_are_cut_into_lines()
+    ensures law { CutsIntoLines }
 {}
