@@ -9,3 +9,4 @@ pub mod AggLemmas
 pub mod ReadLemmas
 pub mod WordLemmas
 pub mod TextLemmas
+pub mod WritingLemmas

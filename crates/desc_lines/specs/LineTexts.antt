@@ -59,19 +59,24 @@ agg_words agg = agg_word agg.fun agg.column ∷ codes "as" ∷ agg.name ∷ []
 abbrev pub pair_word : WrittenPairOf → List ℕ
 pair_word pair = joined pair.left equals pair.right
 
+-- `V width W KIND S LO HI`
+abbrev pub view_front : (name width kind : List ℕ) → WrittenSourceOf → List (List ℕ)
+view_front name width kind source =
+    name ∷ codes "width" ∷ width ∷ kind ∷ source_words source
+
 -- the words of a table
 abbrev pub table_words : (name width : List ℕ) → WrittenKindOf → List (List ℕ)
 table_words name width (Raw feed time columns) =
     codes "raw" ∷ name ∷ codes "feed" ∷ feed ∷ codes "width" ∷ width ∷ codes "time" ∷ time
     ∷ codes "cols" ∷ map column_word columns
 table_words name width (Filter source conds keep) =
-    codes "view" ∷ name ∷ codes "width" ∷ width ∷ codes "filter" ∷ source_words source
+    codes "view" ∷ view_front name width (codes "filter") source
     ++ codes "where" ∷ conds_words conds ++ codes "keep" ∷ keep
 table_words name width (Group source keys aggs) =
-    codes "view" ∷ name ∷ codes "width" ∷ width ∷ codes "group" ∷ source_words source
+    codes "view" ∷ view_front name width (codes "group") source
     ++ codes "by" ∷ keys ++ codes "agg" ∷ flat_map agg_words aggs
 table_words name width (Join left right on) =
-    codes "view" ∷ name ∷ codes "width" ∷ width ∷ codes "join" ∷ source_words left
+    codes "view" ∷ view_front name width (codes "join") left
     ++ source_words right ++ codes "on" ∷ map pair_word on
 
 -- the words of a line
@@ -79,6 +84,10 @@ abbrev pub line_words : WrittenLineOf → List (List ℕ)
 line_words (FeedLine name false) = codes "feed" ∷ name ∷ []
 line_words (FeedLine name true) = codes "feed" ∷ name ∷ codes "header" ∷ []
 line_words (TableLine table) = table_words table.name table.width table.kind
+
+-- what stands after the first word of a line with these further words: a space before each
+abbrev pub spaced_after : List (List ℕ) → List ℕ
+spaced_after words = flat_map (λ word. 32 ∷ word) words
 
 -- the text of a line: its words with single spaces, and LF
 abbrev pub line_text : WrittenLineOf → List ℕ

@@ -13,6 +13,7 @@ mod names;
 mod parts;
 mod reading;
 mod words;
+mod writing;
 
 pub use fun::Fun;
 pub use kind::WrittenKind;
@@ -25,3 +26,4 @@ pub use names::is_name;
 pub use parts::{WrittenAgg, WrittenColumn, WrittenCond, WrittenPair, WrittenSource};
 pub use reading::read_line;
 pub use words::{begins_comment, is_go, is_skipped, is_word, words_of};
+pub use writing::push_line;
