@@ -1,12 +1,11 @@
 pub mod ListLemmas
 pub mod CutLemmas
 pub mod FrontLemmas
-pub mod SaidLemmas
-pub mod WrittenLemmas
 pub mod PartLemmas
 pub mod SelectionLemmas
 pub mod AggLemmas
-pub mod ReadLemmas
+pub mod KindLemmas
+pub mod LineLemmas
 pub mod WordLemmas
 pub mod TextLemmas
 pub mod WritingLemmas

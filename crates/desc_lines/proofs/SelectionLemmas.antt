@@ -1,16 +1,25 @@
--- Words that say a selection are those of its conditions and its columns.
-use Rattle.std.proofs.Common.{◌≡◌, ◌<◌, ◌∙◌, ℕ, List, [], ◌∷◌, ◌++◌, Option, Some, None, codes, refl}
-use Rattle.std.proofs.Common.{sym, ap, ap₂, subst, length, arith}
+-- Selections: their words say them, and words that say a selection are its words.
+use Rattle.std.proofs.Common.{◌≡◌, ◌<◌, ◌≤◌, ◌∙◌, ℕ, Bor, Bool, true, false, List, [], ◌∷◌, ◌++◌}
+use Rattle.std.proofs.Common.{Option, Some, None, bytes_eq, codes, get_or, drop, map, length, refl}
+use Rattle.std.proofs.Common.{sym, ap, ap₂, subst, arith, append_assoc}
 use Rattle.std.specs.Prelude.{if◌then◌else◌}
 use Rattle.std.proofs.lemmas.Option.{same_Some}
-use Rattle.desc_lines.specs.Cuts.{if_some}
-use Rattle.std.proofs.Common.{◌≤◌, Bor, Bool, get_or, drop, map, bytes_eq, true, false, append_assoc}
 use Rattle.desc_lines.specs.Written.{WrittenCondOf}
+use Rattle.desc_lines.specs.Cuts.{if_some}
 use Rattle.desc_lines.specs.Lines.{SelectionOf, cond_of, last_cond, more_cond, selection_of}
 use Rattle.desc_lines.specs.LineTexts.{cond_words, conds_words}
 use Rattle.desc_lines.proofs.ListLemmas.{if-word, option_map-some}
-use Rattle.desc_lines.proofs.FrontLemmas.{if_some-said}
-use Rattle.desc_lines.proofs.PartLemmas.{cond_of-some}
+use Rattle.desc_lines.proofs.FrontLemmas.{if_some-said, if_some-some}
+use Rattle.desc_lines.proofs.PartLemmas.{cond_of-some, cond_of-words}
+
+-- the words of a selection say it
+pub selection_of-words : (first : WrittenCondOf) (others : List WrittenCondOf)
+    (keep : List (List ℕ)) → 0 < length keep
+    → selection_of (conds_words (first ∷ others) ++ codes "keep" ∷ keep)
+    ≡ Some (record { conds = first ∷ others; keep = keep })
+selection_of-words first [] keep some = rw (if_some-some keep _ some, cond_of-words first) refl
+selection_of-words first (next ∷ others) keep some =
+    rw (selection_of-words next others keep some, cond_of-words first) refl
 
 -- the words of a selection
 abbrev pub selection_words : SelectionOf → List (List ℕ)

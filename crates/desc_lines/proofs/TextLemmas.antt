@@ -1,6 +1,7 @@
 -- The lines of a text that was written line by line: `lines_of-texts`.
 use Rattle.std.proofs.Common.{◌≡◌, ◌<◌, ◌==◌, ◌+◌, ◌-◌, ◌∙◌, ℕ, List, [], ◌∷◌, ◌++◌}
-use Rattle.std.proofs.Common.{Bool, true, false, zero, suc, take, refl, ap, length, arith, map, flat_map, append_assoc}
+use Rattle.std.proofs.Common.{Bool, true, false, zero, suc, flat_map, length, map, refl, ap, take}
+use Rattle.std.proofs.Common.{append_assoc, arith}
 use Rattle.std.proofs.Common.{length-append, get_or-append-add, lt-ltb}
 use Rattle.std.specs.Prelude.{if◌then◌else◌}
 use Rattle.std.specs.List.{AllByRecursion, slice_split}

@@ -1,5 +1,6 @@
 -- The text of a line, word by word.
-use Rattle.std.proofs.Common.{◌≡◌, ◌∙◌, ◌≤◌, length, get_or, drop, arith, ℕ, List, [], ◌∷◌, ◌++◌, codes, flat_map, refl, sym, ap, ap₂, append-nil, append_assoc}
+use Rattle.std.proofs.Common.{◌≡◌, ◌∙◌, ◌≤◌, ℕ, List, [], ◌∷◌, ◌++◌, codes, drop, flat_map, get_or}
+use Rattle.std.proofs.Common.{length, refl, sym, ap, ap₂, append-nil, append_assoc, arith}
 use Rattle.std.proofs.lemmas.Grind.{flat_map-append}
 use Rattle.desc_lines.specs.Written.{WrittenCondOf}
 use Rattle.desc_lines.specs.Words.{spaced}

@@ -1,6 +1,6 @@
 -- The words of a line, and the lines that declare nothing.
-use Rattle.std.specs.Prelude.{ℕ, ◌≡◌, ◌<◌, List, [], ◌∷◌, Bool, true, false, ◌==◌, ◌||◌, not, filter}
-use Rattle.std.specs.Prelude.{length, codes}
+use Rattle.std.specs.Prelude.{ℕ, ◌≡◌, ◌<◌, List, [], ◌∷◌, Bool, true, false, ◌==◌, ◌||◌, not}
+use Rattle.std.specs.Prelude.{codes, filter, length}
 use Rattle.std.specs.Str.{bytes_eq}
 use Rattle.std.specs.List.{AllByRecursion, join_with_byte, slice_split}
 

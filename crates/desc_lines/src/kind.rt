@@ -3,7 +3,7 @@
 use crate::parts::{WrittenAgg, WrittenColumn, WrittenCond, WrittenPair, WrittenSource};
 
 /// What fills a table.
-#[derive(Debug, Drop)]
+#[derive(Drop)]
 pub enum WrittenKind<'a> {
     /// A feed, the name of the time column, and the columns.
     Raw {

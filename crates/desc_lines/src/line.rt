@@ -4,7 +4,7 @@ use crate::kind::WrittenKind;
 use std::marker::Model;
 
 /// A table: its name, the width of its partitions, and what fills it.
-#[derive(Debug, Drop)]
+#[derive(Drop)]
 pub struct WrittenTable<'a> {
     pub name: &'a [u8],
     pub width: &'a [u8],
@@ -26,7 +26,7 @@ impl<'a> Model for WrittenTable<'a> {
 
 /// A line: it declares a feed or a table. With `header` the first record of each delivery of the
 /// feed is skipped.
-#[derive(Debug, Drop)]
+#[derive(Drop)]
 pub enum WrittenLine<'a> {
     Feed { name: &'a [u8], header: bool },
     Table(WrittenTable<'a>),

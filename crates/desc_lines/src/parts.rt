@@ -5,7 +5,7 @@ use depot_cell::Op;
 use std::marker::Model;
 
 /// A column of a raw table, written `NAME:TYPE`.
-#[derive(Debug, Drop)]
+#[derive(Drop)]
 pub struct WrittenColumn<'a> {
     pub name: &'a [u8],
     pub ty: &'a [u8],
@@ -20,7 +20,7 @@ impl<'a> Model for WrittenColumn<'a> {
 }
 
 /// A source of a view, written `TABLE LO HI`: the offsets tell the span that is read of it.
-#[derive(Debug, Drop)]
+#[derive(Drop)]
 pub struct WrittenSource<'a> {
     pub table: &'a [u8],
     pub lo: &'a [u8],
@@ -40,7 +40,7 @@ impl<'a> Model for WrittenSource<'a> {
 }
 
 /// A condition of a filter, written `COLUMN OP LITERAL`.
-#[derive(Debug, Drop)]
+#[derive(Drop)]
 pub struct WrittenCond<'a> {
     pub column: &'a [u8],
     pub op: Op,
@@ -60,7 +60,7 @@ impl<'a> Model for WrittenCond<'a> {
 }
 
 /// An aggregate of a group, written `FUN:COLUMN as NAME`, or `count as NAME` without a column.
-#[derive(Debug, Drop)]
+#[derive(Drop)]
 pub struct WrittenAgg<'a> {
     pub fun: Fun,
     pub column: Option<&'a [u8]>,
@@ -81,7 +81,7 @@ impl<'a> Model for WrittenAgg<'a> {
 }
 
 /// A column of the left source of a join and one of the right, written `LEFT=RIGHT`.
-#[derive(Debug, Drop)]
+#[derive(Drop)]
 pub struct WrittenPair<'a> {
     pub left: &'a [u8],
     pub right: &'a [u8],

@@ -80,7 +80,8 @@ impl LineWords {
 
     /// The line with a source after it: `S LO HI`.
     pub fn source(self, source: &WrittenSource) -> Result<LineWords, Memory>
-        ensures exact { IfOk result (λ line. line ≡ self ++ spaced_after (source_words source.now)) }
+        ensures exact { IfOk result (λ line.
+            line ≡ self ++ spaced_after (source_words source.now)) }
     {
         self.words(&[source.table, source.lo, source.hi])
     }

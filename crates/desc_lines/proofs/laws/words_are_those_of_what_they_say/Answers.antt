@@ -1,4 +1,4 @@
-use Rattle.desc_lines.proofs.ReadLemmas.{line_of-some}
+use Rattle.desc_lines.proofs.LineLemmas.{line_of-some}
 use Rattle.desc_lines.proofs.laws.words_are_those_of_what_they_say.Goals as goal
 
 pub returns : goal.returns

@@ -1,4 +1,4 @@
-use Rattle.desc_lines.proofs.WrittenLemmas.{line_of-words}
+use Rattle.desc_lines.proofs.LineLemmas.{line_of-words}
 use Rattle.desc_lines.proofs.laws.written_words_say_the_line.Goals as goal
 
 pub returns : goal.returns

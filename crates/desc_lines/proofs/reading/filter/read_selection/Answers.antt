@@ -1,8 +1,8 @@
 use Rattle.std.proofs.Common.{◌∙◌, sym}
 use Rattle.std.proofs.lemmas.List.{take_rest}
 use Rattle.std.proofs.lemmas.Result.{IfOk-weaker}
-use Rattle.desc_lines.proofs.SelectionLemmas.{selection_of-last, selection_of-no_cond, selection_of-none}
-use Rattle.desc_lines.proofs.SelectionLemmas.{selection_of-step}
+use Rattle.desc_lines.proofs.SelectionLemmas.{selection_of-last, selection_of-no_cond}
+use Rattle.desc_lines.proofs.SelectionLemmas.{selection_of-none, selection_of-step}
 use Rattle.desc_lines.proofs.reading.filter.read_selection.Goals as goal
 
 pub returns-in-None : goal.returns-in-None

@@ -5,4 +5,5 @@ use Rattle.desc_lines.proofs.writing.line_words.LineWords.more_conds.Given as go
 
 abbrev pub invariant-loop-cond : goal.invariant-loop-cond
 invariant-loop-cond l =
-    l.line ≡ l.initial.line ++ spaced_after (flat_map (λ cond. codes "and" ∷ cond_words cond) (take l.cond-index l.conds))
+    l.line ≡ l.initial.line ++ spaced_after
+    (flat_map (λ cond. codes "and" ∷ cond_words cond) (take l.cond-index l.conds))
