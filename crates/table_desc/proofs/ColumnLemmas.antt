@@ -6,7 +6,9 @@ use Rattle.std.proofs.lemmas.List.{append-nil, drop_more, take_more}
 use Rattle.std.proofs.lemmas.List.Elements.{filter_map-append}
 use Rattle.table_desc.specs.declared.table.Column.{Column}
 use Rattle.table_desc.specs.Front.{with_first}
-use Rattle.table_desc.specs.Columns.{find_column, find_columns, kept_columns}
+use Rattle.table_desc.specs.Columns.{find_columns}
+use Rattle.table_desc.specs.Declarations.{kept_columns}
+use Rattle.table_desc.specs.Lookups.{find_column}
 
 -- the columns that words name from a place on: that of the word there, and those after it
 pub find_columns-step : (columns : List Column) (words : List (Bor (List ℕ))) (index : ℕ)

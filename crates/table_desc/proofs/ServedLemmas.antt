@@ -24,8 +24,10 @@ use Rattle.table_desc.specs.Sources.{HasEarlierSources, HasFittingSources, kind_
 use Rattle.table_desc.specs.Sources.{table_width, width_of}
 use Rattle.table_desc.specs.Served.{IsNextTable, IsServed}
 use Rattle.table_desc.specs.Names.{find_feed, find_table}
-use Rattle.table_desc.specs.Columns.{are_columns, columns_of, kept_columns, find_time}
-use Rattle.table_desc.specs.RawTables.{are_raw_keywords, read_raw_table, raw_table, read_width}
+use Rattle.table_desc.specs.Columns.{are_columns, columns_of, find_time}
+use Rattle.table_desc.specs.Declarations.{kept_columns}
+use Rattle.table_desc.specs.Ticks.{read_width}
+use Rattle.table_desc.specs.RawTables.{are_raw_keywords, read_raw_table, raw_table}
 use Rattle.table_desc.specs.Selections.{SelectionOf, read_selection}
 use Rattle.table_desc.specs.Filters.{filter_over, read_filter, filter_table, is_filter}
 use Rattle.table_desc.specs.Filters.{is_multiple, reads_few}

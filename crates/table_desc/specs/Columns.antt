@@ -1,25 +1,20 @@
 -- The columns of a table: those that words declare, and those that a view keeps.
 use Rattle.std.specs.Prelude.{ℕ, ◌+◌, List, [], ◌∷◌, Option, Some, None, Bool, true, false, not}
-use Rattle.std.specs.Prelude.{◌==◌, ◌&&◌, nat_lt, nat_le, if◌then◌else◌, length, take, drop, codes}
-use Rattle.std.specs.Prelude.{position, option_and_then, option_map, filter_map, slice_get}
+use Rattle.std.specs.Prelude.{◌==◌, ◌&&◌, nat_lt, nat_le, if◌then◌else◌, length, take, drop}
+use Rattle.std.specs.Prelude.{position, option_and_then, option_map}
 use Rattle.std.specs.Str.{bytes_eq}
 use Rattle.std.specs.List.{list_any}
 use Rattle.depot_cell.specs.declared.cell.Ty.{Ty}
 use Rattle.table_desc.specs.declared.table.Column.{Column}
 use Rattle.depot_cell.specs.declared.cell.Ty.TheVariants as ty
 use Rattle.table_desc.specs.Names.{is_name}
+use Rattle.table_desc.specs.Lookups.{find_column, read_type}
 use Rattle.table_desc.specs.Front.{with_first}
-
--- the type that a word names
-abbrev pub ty_named : List ℕ → Option Ty
-ty_named word =
-    if bytes_eq word (codes "int") then Some ty.Int
-    else if bytes_eq word (codes "text") then Some ty.Text else None
 
 -- a column of these parts, if the name is one
 abbrev pub column_from : (name ty : List ℕ) → Option Column
 column_from name ty =
-    if is_name name then option_map (λ ty. record { name = name; ty = ty }) (ty_named ty) else None
+    if is_name name then option_map (λ ty. record { name = name; ty = ty }) (read_type ty) else None
 
 -- whether a byte is a colon
 abbrev pub is_colon : ℕ → Bool
@@ -58,16 +53,8 @@ abbrev pub find_time : List Column → List ℕ → Option ℕ
 find_time columns name = position
     (λ (column : Column). bytes_eq column.name name && is_int column.ty) columns
 
--- the number of the column with this name
-abbrev pub find_column : List Column → List ℕ → Option ℕ
-find_column columns name = position (λ (column : Column). bytes_eq column.name name) columns
-
 -- the columns that words name, in the order of the words
 abbrev pub find_columns : List Column → List (List ℕ) → Option (List ℕ)
 find_columns columns [] = Some []
 find_columns columns (word ∷ others) =
     with_first (find_column columns word) (find_columns columns others)
-
--- the columns with these numbers
-abbrev pub kept_columns : List Column → (keep : List ℕ) → List Column
-kept_columns columns keep = filter_map (slice_get columns) keep

@@ -9,8 +9,9 @@ use Rattle.table_desc.specs.Tables.{TableOf}
 use Rattle.table_desc.specs.KindValues.{Filter}
 use Rattle.table_desc.specs.Words.{words}
 use Rattle.table_desc.specs.Names.{find_table}
-use Rattle.table_desc.specs.Columns.{are_columns, kept_columns}
-use Rattle.table_desc.specs.RawTables.{read_width}
+use Rattle.table_desc.specs.Columns.{are_columns}
+use Rattle.table_desc.specs.Declarations.{kept_columns}
+use Rattle.table_desc.specs.Ticks.{read_width}
 use Rattle.table_desc.specs.Selections.{SelectionOf, read_selection}
 
 -- whether a number is there and is 0

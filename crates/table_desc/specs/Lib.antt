@@ -9,6 +9,13 @@ pub mod Served
 pub mod Words
 pub mod Front
 pub mod Names
+pub mod Lookups
+pub mod Ticks
+pub mod Causes
+pub mod Declarations
+pub mod Described
+pub mod Accepted
+pub mod Canonical
 pub mod Columns
 pub mod RawTables
 pub mod Selections

@@ -1,21 +1,14 @@
 -- Raw tables: a feed, a width, a time column and columns.
-use Rattle.std.specs.Prelude.{ℕ, List, ◌∷◌, Option, Some, None, Bool, not, ◌&&◌, nat_le}
+use Rattle.std.specs.Prelude.{ℕ, List, ◌∷◌, Option, None, Bool, not, ◌&&◌}
 use Rattle.std.specs.Prelude.{if◌then◌else◌, codes, option_and_then, option_map}
 use Rattle.std.specs.Str.{bytes_eq}
-use Rattle.depot_cell.specs.Numbers.{number_of}
 use Rattle.table_desc.specs.declared.table.Column.{Column}
-use Rattle.partition_map.specs.Time.{END}
 use Rattle.table_desc.specs.Descriptions.{DescOf}
 use Rattle.table_desc.specs.Tables.{TableOf}
 use Rattle.table_desc.specs.KindValues.{Raw}
 use Rattle.table_desc.specs.Names.{find_feed}
+use Rattle.table_desc.specs.Ticks.{read_width}
 use Rattle.table_desc.specs.Columns.{are_columns, columns_of, find_time}
-
--- the width that a word says: from 1 tick to all of them
-abbrev pub read_width : List ℕ → Option ℕ
-read_width word = option_and_then
-    (λ ticks. if nat_le 1 ticks && nat_le ticks END then Some ticks else None)
-    (number_of word)
 
 -- a raw table of these parts, if they may stand together
 abbrev pub raw_table : DescOf → (name feed width time : List ℕ) → List Column → Option TableOf

@@ -10,7 +10,8 @@ use Rattle.table_desc.specs.declared.table.Column.{Column}
 use Rattle.table_desc.specs.declared.view.Cond.{Cond}
 use Rattle.table_desc.specs.Words.{words}
 use Rattle.depot_cell.specs.declared.cell.Op.TheVariants as op
-use Rattle.table_desc.specs.Columns.{find_column, find_columns}
+use Rattle.table_desc.specs.Columns.{find_columns}
+use Rattle.table_desc.specs.Lookups.{find_column}
 
 -- the operator that a word names
 abbrev pub op_named : List ℕ → Option Op

@@ -8,16 +8,20 @@
 
 mod delivery;
 mod grammar;
+pub mod lookups;
+mod reading;
 mod served;
 mod table;
 mod view;
 
 pub use delivery::{DRow, Delivery};
+pub use desc_lines::Fun;
 pub use grammar::{
     Draft, begins_comment, described_is_served, field_cell, find_feed, find_table, is_go, is_name,
     is_skipped, is_word, words_of,
 };
 pub use partition_map::{END, Span, Width};
+pub use reading::{DescCause, DescFault};
 pub use served::ServedDesc;
 pub use table::{Column, Desc, Feed, Key, Table, compare_keys};
-pub use view::{Agg, Cond, Fun, Kind, Pair, Src};
+pub use view::{Agg, Cond, Kind, Pair, Src};

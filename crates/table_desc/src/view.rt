@@ -1,6 +1,7 @@
 //! What fills a table: the deliveries of a feed, or the rows of other tables.
 
 use depot_cell::{Cell, Op};
+use desc_lines::Fun;
 use partition_map::Span;
 
 /// A source of a view: a table declared before it, and the span that is read of it.
@@ -16,15 +17,6 @@ pub struct Cond {
     pub column: u16,
     pub op: Op,
     pub value: Cell,
-}
-
-/// What an aggregate computes of the rows of a group.
-#[derive(Clone, Copy, Debug, PartialEq, Eq)]
-pub enum Fun {
-    Sum,
-    Count,
-    Least,
-    Greatest,
 }
 
 /// An aggregate of a group, over a column of the source. The column of a count is 0.

@@ -1,17 +1,18 @@
-//! The columns of a table: those that words `NAME:TYPE` declare, and those that a view keeps.
+//! The columns of a raw table: those that words `NAME:TYPE` declare.
 
 ghost use Rattle.std.specs.Prelude.{◌≡◌, ◌<◌, ◌≤◌, [], length, map, option_map};
 ghost use Rattle.std.specs.Prelude.{position, IfOk, IfSome};
 ghost use Rattle.std.specs.Str.{bytes_eq};
 ghost use Rattle.std.specs.List.{list_any};
-ghost use Rattle.table_desc.specs.Columns.{are_columns, are_different, column_from, find_column};
-ghost use Rattle.table_desc.specs.Columns.{column_of, columns_of, is_colon, is_int, kept_columns};
-ghost use Rattle.table_desc.specs.Columns.{find_time, ty_named};
+ghost use Rattle.table_desc.specs.Columns.{are_columns, are_different, column_from};
+ghost use Rattle.table_desc.specs.Columns.{column_of, columns_of, is_colon, is_int};
+ghost use Rattle.table_desc.specs.Columns.{find_time};
 
 use crate::Column;
 use crate::grammar::names::{is_name, name_text};
 use crate::grammar::words::is_word;
-use depot_cell::{Memory, Str, Ty};
+use crate::lookups::read_type;
+use depot_cell::{Memory, Ty};
 use std::alloc::Global;
 
 /// The most columns of a table.
@@ -55,24 +56,12 @@ fn column_from(alloc: Global, name: &[u8], ty: &[u8]) -> Result<Option<Column>, 
     if !is_name(name) {
         return Ok(None);
     }
-    match ty_named(ty) {
+    match read_type(ty) {
         Some(ty) => Ok(Some(Column {
             name: name_text(alloc, name)?,
             ty,
         })),
         None => Ok(None),
-    }
-}
-
-fn ty_named(word: &[u8]) -> Option<Ty>
-    ensures exact { result ≡ ty_named word.now }
-{
-    if is_word(word, b"int") {
-        Some(Ty::Int)
-    } else if is_word(word, b"text") {
-        Some(Ty::Text)
-    } else {
-        None
     }
 }
 
@@ -99,53 +88,6 @@ fn is_declared(columns: &[Column], name: &[u8]) -> bool
     columns
         .iter()
         .any(|column| is_word(name, column.name.as_bytes()))
-}
-
-/// The columns with these numbers.
-pub fn kept_columns(
-    alloc: Global,
-    columns: &[Column],
-    numbers: &[u16],
-) -> Result<Vec<Column>, Memory>
-    ensures exact { IfOk result (λ kept. kept.items ≡ kept_columns columns.now numbers.now) }
-{
-    let mut kept = Vec::new(alloc);
-    for number in numbers {
-        if let Some(column) = columns.get(usize::from(*number)) {
-            kept.push(copy_column(alloc, column)?)?;
-        }
-    }
-    Ok(kept)
-}
-
-fn copy_column(alloc: Global, column: &Column) -> Result<Column, Memory>
-    ensures exact { IfOk result (λ copy. copy ≡ column.now) }
-{
-    Ok(Column {
-        name: Str::from_bytes(alloc, column.name.as_bytes())?,
-        ty: column.ty,
-    })
-}
-
-/// The number of the column with this name.
-pub fn find_column(columns: &[Column], name: &[u8]) -> Option<u16>
-    requires few { length columns.now ≤ 16 }
-    ensures exact { result ≡ find_column columns.now name.now }
-    ensures within { IfSome result (λ column. column < length columns.now) }
-{
-    match place_of_column(columns, name) {
-        Some(column) => Some(column as u16),
-        None => None,
-    }
-}
-
-fn place_of_column(columns: &[Column], name: &[u8]) -> Option<usize>
-    ensures exact { result ≡ position (λ column. bytes_eq column.name name.now) columns.now }
-    ensures within { IfSome result (λ column. column < length columns.now) }
-{
-    columns
-        .iter()
-        .position(|column| is_word(column.name.as_bytes(), name))
 }
 
 /// The number of the int column with this name.

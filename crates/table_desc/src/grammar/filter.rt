@@ -6,11 +6,12 @@ ghost use Rattle.table_desc.specs.Filters.{filter_over, filter_from, read_filter
 ghost use Rattle.table_desc.specs.Filters.{is_filter, is_multiple, is_no_offset, reads_few};
 ghost use Rattle.table_desc.specs.Filters.{unsigned};
 
-use crate::grammar::columns::{are_columns, kept_columns};
+use crate::grammar::columns::are_columns;
 use crate::grammar::names::{find_table, name_text};
-use crate::grammar::raw_table::read_width;
 use crate::grammar::selection::{Selection, read_selection};
 use crate::grammar::words::is_word;
+use crate::lookups::kept_columns;
+use crate::reading::read_width;
 use crate::{Kind, ServedDesc, Span, Src, Table, Width};
 use depot_cell::{Memory, read_number};
 use std::alloc::Global;

@@ -1,13 +1,13 @@
 //! Names: which words are names, and which feed or table a name is of.
 
-ghost use Rattle.std.specs.Prelude.{◌≡◌, ◌<◌, length, position, IfOk, IfSome, IsTrue};
+ghost use Rattle.std.specs.Prelude.{◌≡◌, ◌<◌, length, IfOk, IfSome, IsTrue};
 ghost use Rattle.std.specs.Str.{bytes_eq};
 ghost use Rattle.std.specs.List.{list_all, list_any};
 ghost use Rattle.table_desc.specs.Names.{begins_name, find_feed, is_letter, is_name, is_name_byte};
 ghost use Rattle.table_desc.specs.Names.{reserved, find_table};
 
 use crate::grammar::words::is_word;
-use crate::{Feed, ServedDesc, Table};
+use crate::{ServedDesc, lookups};
 use depot_cell::{Memory, Str};
 use std::alloc::Global;
 
@@ -73,19 +73,7 @@ pub fn name_text(alloc: Global, name: &[u8]) -> Result<Str, Memory>
 pub fn find_feed(served: &ServedDesc, name: &[u8]) -> Option<u16>
     ensures exact { result ≡ find_feed served.now.desc name.now }
 {
-    match place_of_feed(&served.desc.feeds, name) {
-        Some(feed) => Some(feed as u16),
-        None => None,
-    }
-}
-
-fn place_of_feed(feeds: &[Feed], name: &[u8]) -> Option<usize>
-    ensures exact { result ≡ position (λ feed. bytes_eq feed.name name.now) feeds.now }
-    ensures within { IfSome result (λ feed. feed < length feeds.now) }
-{
-    feeds
-        .iter()
-        .position(|feed| is_word(feed.name.as_bytes(), name))
+    lookups::find_feed(&served.desc, name)
 }
 
 /// The number of the table with this name.
@@ -93,17 +81,5 @@ pub fn find_table(served: &ServedDesc, name: &[u8]) -> Option<u16>
     ensures exact { result ≡ find_table served.now.desc name.now }
     ensures within { IfSome result (λ table. table < length served.now.desc.tables) }
 {
-    match place_of_table(&served.desc.tables, name) {
-        Some(table) => Some(table as u16),
-        None => None,
-    }
-}
-
-fn place_of_table(tables: &[Table], name: &[u8]) -> Option<usize>
-    ensures exact { result ≡ position (λ table. bytes_eq table.name name.now) tables.now }
-    ensures within { IfSome result (λ table. table < length tables.now) }
-{
-    tables
-        .iter()
-        .position(|table| is_word(table.name.as_bytes(), name))
+    lookups::find_table(&served.desc, name)
 }

@@ -3,13 +3,14 @@
 ghost use Rattle.std.specs.Prelude.{◌≡◌, map, IfOk, IsTrue};
 ghost use Rattle.table_desc.specs.Names.{is_name};
 ghost use Rattle.table_desc.specs.RawTables.{are_raw_keywords, raw_table_from, read_raw_table};
-ghost use Rattle.table_desc.specs.RawTables.{raw_table, read_width};
+ghost use Rattle.table_desc.specs.RawTables.{raw_table};
 
 use crate::grammar::columns::{are_columns, columns_of, find_time};
 use crate::grammar::names::{find_feed, name_text};
 use crate::grammar::words::is_word;
-use crate::{Column, END, Kind, ServedDesc, Table, Width};
-use depot_cell::{Memory, read_number};
+use crate::reading::read_width;
+use crate::{Column, Kind, ServedDesc, Table};
+use depot_cell::Memory;
 use std::alloc::Global;
 
 /// The raw table with this name that words say: `feed F width W time C cols C:TYPE ..`.
@@ -107,14 +108,4 @@ fn raw_table(
             time: time as u16,
         },
     }))
-}
-
-/// The width that a word says.
-pub fn read_width(word: &[u8]) -> Option<Width>
-    ensures exact { result ≡ read_width word.now }
-{
-    match read_number(word) {
-        Some(ticks) if 1 <= ticks && ticks <= END => Some(Width::new(ticks)),
-        _ => None,
-    }
 }

@@ -4,9 +4,9 @@ ghost use Rattle.std.specs.Prelude.{◌≡◌, ◌≤◌, length, map, option_ma
 ghost use Rattle.table_desc.specs.Columns.{find_columns};
 ghost use Rattle.table_desc.specs.Selections.{cond_of, op_named, read_selection};
 
-use crate::grammar::columns::find_column;
 use crate::grammar::field::field_cell;
 use crate::grammar::words::is_word;
+use crate::lookups::find_column;
 use crate::{Column, Cond};
 use depot_cell::{Memory, Op};
 use std::alloc::Global;

@@ -1,7 +1,7 @@
 -- the columns so far are those of the numbers so far
 use Rattle.std.proofs.Common.{◌≡◌, take}
-use Rattle.table_desc.specs.Columns.{kept_columns}
-use Rattle.table_desc.proofs.grammar.columns.kept_columns.Given as goal
+use Rattle.table_desc.specs.Declarations.{kept_columns}
+use Rattle.table_desc.proofs.lookups.kept_columns.Given as goal
 
 abbrev pub invariant-loop-number : goal.invariant-loop-number
 invariant-loop-number l =

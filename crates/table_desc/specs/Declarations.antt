@@ -1,0 +1,185 @@
+-- What a line declares, if nothing speaks against it. Where something does, numbers are 0.
+use Rattle.std.specs.Prelude.{ℕ, pos, List, [], ◌∷◌, ◌++◌, Option, Some, None, map, codes}
+use Rattle.std.specs.Prelude.{filter_map, option_map, position, slice_get, unwrap_or}
+use Rattle.std.specs.Str.{bytes_eq}
+use Rattle.std.specs.Result.{result_ok}
+use Rattle.depot_cell.specs.declared.cell.Cell.{Cell}
+use Rattle.depot_cell.specs.declared.cell.Ty.{Ty}
+use Rattle.depot_cell.specs.declared.cell.Ty.TheVariants as ty
+use Rattle.depot_cell.specs.Reading.{cell_of}
+use Rattle.partition_map.specs.declared.time.Span.{Span}
+use Rattle.desc_lines.specs.declared.fun.Fun.{Fun}
+use Rattle.desc_lines.specs.declared.fun.Fun.TheVariants as fun
+use Rattle.desc_lines.specs.Written.{WrittenAggOf, WrittenColumnOf, WrittenCondOf, WrittenKindOf}
+use Rattle.desc_lines.specs.Written.{WrittenLineOf, WrittenPairOf, WrittenSourceOf, WrittenTableOf}
+use Rattle.desc_lines.specs.Written.{Raw, Filter, Group, Join, FeedLine, TableLine}
+use Rattle.table_desc.specs.declared.table.Column.{Column}
+use Rattle.table_desc.specs.declared.table.Feed.{Feed}
+use Rattle.table_desc.specs.declared.view.Agg.{Agg}
+use Rattle.table_desc.specs.declared.view.Cond.{Cond}
+use Rattle.table_desc.specs.declared.view.Pair.{Pair}
+use Rattle.table_desc.specs.declared.view.Src.{Src}
+use Rattle.table_desc.specs.KindValues as kind
+use Rattle.table_desc.specs.KindValues.{KindOf}
+use Rattle.table_desc.specs.Descriptions.{DescOf}
+use Rattle.table_desc.specs.Tables.{TableOf}
+use Rattle.table_desc.specs.Names.{find_feed, find_table}
+use Rattle.table_desc.specs.Lookups.{find_column, find_type, read_type}
+use Rattle.table_desc.specs.Lookups.{source_columns}
+use Rattle.table_desc.specs.Ticks.{read_span, read_width}
+
+-- the number that was found
+abbrev pub found : Option ℕ → ℕ
+found number = unwrap_or number 0
+
+-- the number of the column with this name
+abbrev pub column_number : List Column → List ℕ → ℕ
+column_number columns name = found (find_column columns name)
+
+-- a column of a raw table
+abbrev pub declared_column : WrittenColumnOf → Column
+declared_column column = record { name = column.name; ty = unwrap_or (read_type column.ty) ty.Int }
+
+-- the number of the column that a raw table declares with this name
+abbrev pub time_number : List WrittenColumnOf → (time : List ℕ) → ℕ
+time_number columns time =
+    found (position (λ (column : WrittenColumnOf). bytes_eq column.name time) columns)
+
+-- the span of just a partition's own ticks
+abbrev pub own_ticks : Span
+own_ticks = record { lo = pos 0; hi = pos 0 }
+
+-- a source of a view
+abbrev pub declared_source : DescOf → WrittenSourceOf → Src
+declared_source desc source = record {
+  table = found (find_table desc source.table);
+  span = unwrap_or (read_span source.lo source.hi) own_ticks;
+}
+
+-- the value that a word is for a column of this type
+abbrev pub value_of : Option Ty → List ℕ → Option Cell
+value_of None literal = None
+value_of (Some ty) literal = result_ok (cell_of ty literal)
+
+-- a condition on the rows of a source with these columns
+abbrev pub declared_cond : List Column → WrittenCondOf → Option Cond
+declared_cond columns cond = option_map (λ value. record {
+  column = column_number columns cond.column;
+  op = cond.op;
+  value = value;
+}) (value_of (find_type columns cond.column) cond.literal)
+
+-- the number of the column that an aggregate is over: 0 for a count, which is over none
+abbrev pub number_over : List Column → Option (List ℕ) → ℕ
+number_over columns None = 0
+number_over columns (Some name) = column_number columns name
+
+-- an aggregate over a source with these columns
+abbrev pub declared_agg : List Column → WrittenAggOf → Agg
+declared_agg columns agg = record { fun = agg.fun; column = number_over columns agg.column }
+
+-- a pair of a join
+abbrev pub declared_pair : (left right : List Column) → WrittenPairOf → Pair
+declared_pair left right pair = record {
+  left = column_number left pair.left;
+  right = column_number right pair.right;
+}
+
+-- the columns with these numbers
+abbrev pub kept_columns : List Column → (keep : List ℕ) → List Column
+kept_columns columns keep = filter_map (slice_get columns) keep
+
+-- the type of what is computed of a column of this type: a sum and a count are ints
+abbrev pub computed_type : Fun → Option Ty → Ty
+computed_type fun.Least (Some ty) = ty
+computed_type fun.Greatest (Some ty) = ty
+computed_type _ _ = ty.Int
+
+-- the type of an aggregate over a source with these columns
+abbrev pub agg_type : List Column → Agg → Ty
+agg_type columns agg = computed_type agg.fun
+    (option_map (λ (column : Column). column.ty) (slice_get columns agg.column))
+
+-- the column that an aggregate makes
+abbrev pub agg_column : List Column → WrittenAggOf → Column
+agg_column columns agg =
+    record { name = agg.name; ty = agg_type columns (declared_agg columns agg) }
+
+-- a column of a join: under a prefix
+abbrev pub prefixed : (prefix : List ℕ) → Column → Column
+prefixed prefix column = record column { name = prefix ++ column.name }
+
+-- the columns of a join: the left ones under `l_`, then the right ones under `r_`
+abbrev pub joined_columns : (left right : List Column) → List Column
+joined_columns left right =
+    map (prefixed (codes "l_")) left ++ map (prefixed (codes "r_")) right
+
+-- what fills a table, and the columns that it has
+pub record FillingOf : Type 0 where
+  pub columns : List Column
+  pub kind : KindOf
+
+-- a filter over a source with these columns
+abbrev pub declared_filter : List Column → Src → List WrittenCondOf → (keep : List ℕ) → FillingOf
+declared_filter columns source conds keep = record {
+  columns = kept_columns columns keep;
+  kind = kind.Filter source (filter_map (declared_cond columns) conds) keep;
+}
+
+-- a group of a source with these columns
+abbrev pub declared_group : List Column → Src → (keys : List ℕ) → List WrittenAggOf → FillingOf
+declared_group columns source keys aggs = record {
+  columns = kept_columns columns keys ++ map (agg_column columns) aggs;
+  kind = kind.Group source keys (map (declared_agg columns) aggs);
+}
+
+-- a join of sources with these columns
+abbrev pub declared_join : (left right : List Column) → Src → Src → List WrittenPairOf → FillingOf
+declared_join left right left_source right_source on = record {
+  columns = joined_columns left right;
+  kind = kind.Join left_source right_source (map (declared_pair left right) on);
+}
+
+-- what fills a table that a line declares
+abbrev pub declared_filling : DescOf → WrittenKindOf → FillingOf
+declared_filling desc (Raw feed time columns) = record {
+  columns = map declared_column columns;
+  kind = kind.Raw (found (find_feed desc feed)) (time_number columns time);
+}
+declared_filling desc (Filter source conds keep) = declared_filter
+    (source_columns desc source.table) (declared_source desc source) conds
+    (map (column_number (source_columns desc source.table)) keep)
+declared_filling desc (Group source keys aggs) = declared_group
+    (source_columns desc source.table) (declared_source desc source)
+    (map (column_number (source_columns desc source.table)) keys) aggs
+declared_filling desc (Join left right on) = declared_join
+    (source_columns desc left.table) (source_columns desc right.table)
+    (declared_source desc left) (declared_source desc right) on
+
+-- a table of this name and width, that is filled so
+abbrev pub filled : (name : List ℕ) → (width : ℕ) → FillingOf → TableOf
+filled name width filling = record {
+  name = name;
+  columns = filling.columns;
+  width = width;
+  kind = filling.kind;
+}
+
+-- the table that a line declares
+abbrev pub declared_table : DescOf → WrittenTableOf → TableOf
+declared_table desc table = filled table.name (unwrap_or (read_width table.width) 1)
+    (declared_filling desc table.kind)
+
+-- a description with one feed more
+abbrev pub with_feed : DescOf → Feed → DescOf
+with_feed desc feed = record desc { feeds = desc.feeds ++ feed ∷ [] }
+
+-- a description with one table more
+abbrev pub with_table : DescOf → TableOf → DescOf
+with_table desc table = record desc { tables = desc.tables ++ table ∷ [] }
+
+-- a description with what a line declares
+abbrev pub with_declared : DescOf → WrittenLineOf → DescOf
+with_declared desc (FeedLine name header) =
+    with_feed desc (record { name = name; header = header })
+with_declared desc (TableLine table) = with_table desc (declared_table desc table)

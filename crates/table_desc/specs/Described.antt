@@ -1,0 +1,63 @@
+-- What the lines of a text declare, or its first bad line and why it is bad.
+use Rattle.std.specs.Prelude.{ℕ, ◌+◌, ◌≡◌, List, [], ◌∷◌, Option, Some, None, Result, Ok, Err}
+use Rattle.std.specs.Prelude.{if◌then◌else◌}
+use Rattle.std.specs.Str.{is_utf8}
+use Rattle.desc_lines.specs.Lines.{line_of}
+use Rattle.desc_lines.specs.Texts.{lines_of}
+use Rattle.desc_lines.specs.Words.{words, is_skipped}
+use Rattle.desc_lines.specs.Written.{WrittenLineOf}
+use Rattle.table_desc.specs.declared.reading.fault.DescCause.{DescCause}
+use Rattle.table_desc.specs.declared.reading.fault.DescCause.TheVariants as cause
+use Rattle.table_desc.specs.declared.reading.fault.DescFault.{DescFault}
+use Rattle.table_desc.specs.declared.reading.fault.DescFault.TheVariants.{At, Memory}
+use Rattle.table_desc.specs.Descriptions.{DescOf}
+use Rattle.table_desc.specs.Causes.{cause_of}
+use Rattle.table_desc.specs.Declarations.{with_declared}
+
+-- a description with what a line declares, if no cause speaks against it
+abbrev pub unless_bad : DescOf → WrittenLineOf → Option DescCause → Result DescOf DescCause
+unless_bad desc line None = Ok (with_declared desc line)
+unless_bad desc line (Some cause) = Err cause
+
+-- a description with what a line declares, if it has a shape
+abbrev pub with_written : DescOf → Option WrittenLineOf → Result DescOf DescCause
+with_written desc None = Err cause.BadLine
+with_written desc (Some line) = unless_bad desc line (cause_of desc line)
+
+-- a description with what a line of a text declares: a line that is skipped may hold any bytes
+abbrev pub with_line : DescOf → List ℕ → Result DescOf DescCause
+with_line desc line =
+    if is_skipped (words line) then Ok desc
+    else if is_utf8 line then with_written desc (line_of (words line))
+    else Err cause.BadLine
+
+-- a bad line, by its number from 1, and the first cause that makes it bad
+pub record FaultOf : Type 0 where
+  pub line : ℕ
+  pub cause : DescCause
+
+-- what the lines after one declare, if that one is not bad
+abbrev pub then_lines : (number : ℕ) → Result DescOf DescCause
+    → (DescOf → Result DescOf FaultOf) → Result DescOf FaultOf
+then_lines number (Ok desc) lines = lines desc
+then_lines number (Err cause) lines = Err (record { line = number; cause = cause })
+
+-- a description with what lines declare, of which the first has this number
+abbrev pub with_lines : (number : ℕ) → DescOf → List (List ℕ) → Result DescOf FaultOf
+with_lines number desc [] = Ok desc
+with_lines number desc (line ∷ others) =
+    then_lines number (with_line desc line) (λ desc. with_lines (number + 1) desc others)
+
+-- a description that declares nothing
+abbrev pub no_desc : DescOf
+no_desc = record { feeds = []; tables = [] }
+
+-- what a text declares, or its first bad line
+abbrev pub described : List ℕ → Result DescOf FaultOf
+described bytes = with_lines 1 no_desc (lines_of bytes)
+
+-- an answer is what a text declares or its first bad line, unless there was no memory
+abbrev pub Reads : Result DescOf DescFault → Result DescOf FaultOf → Type 0
+Reads (Ok desc) read = read ≡ Ok desc
+Reads (Err (At line cause)) read = read ≡ Err (record { line = line; cause = cause })
+Reads (Err Memory) read = Unit {0}

@@ -1,0 +1,146 @@
+//! What has a name: a feed, a table or a column.
+
+ghost use Rattle.std.specs.Prelude.{◌≡◌, ◌<◌, ◌≤◌, length, position, IfOk, IfSome};
+ghost use Rattle.std.specs.Str.{bytes_eq};
+ghost use Rattle.table_desc.specs.Declarations.{kept_columns};
+ghost use Rattle.table_desc.specs.Lookups.{find_column, find_type, read_type, source_columns};
+ghost use Rattle.table_desc.specs.Lookups.{source_width};
+ghost use Rattle.table_desc.specs.Names.{find_feed, find_table};
+
+use crate::grammar::is_word;
+use crate::{Column, Desc, Feed, Table, Width};
+use depot_cell::{Memory, Str, Ty};
+use std::alloc::Global;
+
+/// The number of the feed with this name.
+pub fn find_feed(desc: &Desc, name: &[u8]) -> Option<u16>
+    requires few { length desc.now.feeds ≤ 16 }
+    ensures exact { result ≡ find_feed desc.now name.now }
+    ensures within { IfSome result (λ feed. feed < length desc.now.feeds) }
+{
+    match place_of_feed(&desc.feeds, name) {
+        Some(feed) => Some(feed as u16),
+        None => None,
+    }
+}
+
+fn place_of_feed(feeds: &[Feed], name: &[u8]) -> Option<usize>
+    ensures exact { result ≡ position (λ feed. bytes_eq feed.name name.now) feeds.now }
+    ensures within { IfSome result (λ feed. feed < length feeds.now) }
+{
+    feeds
+        .iter()
+        .position(|feed| is_word(feed.name.as_bytes(), name))
+}
+
+/// The number of the table with this name.
+pub fn find_table(desc: &Desc, name: &[u8]) -> Option<u16>
+    requires few { length desc.now.tables ≤ 64 }
+    ensures exact { result ≡ find_table desc.now name.now }
+    ensures within { IfSome result (λ table. table < length desc.now.tables) }
+{
+    match place_of_table(&desc.tables, name) {
+        Some(table) => Some(table as u16),
+        None => None,
+    }
+}
+
+fn place_of_table(tables: &[Table], name: &[u8]) -> Option<usize>
+    ensures exact { result ≡ position (λ table. bytes_eq table.name name.now) tables.now }
+    ensures within { IfSome result (λ table. table < length tables.now) }
+{
+    tables
+        .iter()
+        .position(|table| is_word(table.name.as_bytes(), name))
+}
+
+/// The columns of the table with this name, none if there is no such table.
+pub(crate) fn source_columns<'a>(desc: &'a Desc, name: &[u8]) -> &'a [Column]
+    ensures exact { result.now ≡ source_columns desc.now name.now }
+{
+    match place_of_table(&desc.tables, name) {
+        Some(table) => &desc.tables[table].columns,
+        None => &[],
+    }
+}
+
+/// The width of the table with this name, 1 if there is no such table.
+pub(crate) fn source_width(desc: &Desc, name: &[u8]) -> Width
+    ensures exact { result ≡ source_width desc.now name.now }
+{
+    match place_of_table(&desc.tables, name) {
+        Some(table) => desc.tables[table].width,
+        None => Width::new(1),
+    }
+}
+
+/// The number of the column with this name.
+pub(crate) fn find_column(columns: &[Column], name: &[u8]) -> Option<u16>
+    requires few { length columns.now ≤ 16 }
+    ensures exact { result ≡ find_column columns.now name.now }
+    ensures within { IfSome result (λ column. column < length columns.now) }
+{
+    match place_of_column(columns, name) {
+        Some(column) => Some(column as u16),
+        None => None,
+    }
+}
+
+/// The place of the column with this name.
+pub(crate) fn place_of_column(columns: &[Column], name: &[u8]) -> Option<usize>
+    ensures exact { result ≡ find_column columns.now name.now }
+    ensures within { IfSome result (λ column. column < length columns.now) }
+{
+    columns
+        .iter()
+        .position(|column| is_word(column.name.as_bytes(), name))
+}
+
+/// The type of the column with this name.
+pub(crate) fn find_type(columns: &[Column], name: &[u8]) -> Option<Ty>
+    ensures exact { result ≡ find_type columns.now name.now }
+{
+    match place_of_column(columns, name) {
+        Some(column) => Some(columns[column].ty),
+        None => None,
+    }
+}
+
+/// The type that a word says.
+pub(crate) fn read_type(word: &[u8]) -> Option<Ty>
+    ensures exact { result ≡ read_type word.now }
+{
+    if is_word(word, b"int") {
+        Some(Ty::Int)
+    } else if is_word(word, b"text") {
+        Some(Ty::Text)
+    } else {
+        None
+    }
+}
+
+/// The columns with these numbers.
+pub(crate) fn kept_columns(
+    alloc: Global,
+    columns: &[Column],
+    numbers: &[u16],
+) -> Result<Vec<Column>, Memory>
+    ensures exact { IfOk result (λ kept. kept.items ≡ kept_columns columns.now numbers.now) }
+{
+    let mut kept = Vec::new(alloc);
+    for number in numbers {
+        if let Some(column) = columns.get(usize::from(*number)) {
+            kept.push(copy_column(alloc, column)?)?;
+        }
+    }
+    Ok(kept)
+}
+
+fn copy_column(alloc: Global, column: &Column) -> Result<Column, Memory>
+    ensures exact { IfOk result (λ copy. copy ≡ column.now) }
+{
+    Ok(Column {
+        name: Str::from_bytes(alloc, column.name.as_bytes())?,
+        ty: column.ty,
+    })
+}
