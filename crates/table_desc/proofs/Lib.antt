@@ -1,3 +1,5 @@
+pub mod BoolLemmas
+pub mod DifferentLemmas
 pub mod ListLemmas
 pub mod FrontLemmas
 pub mod NameLemmas

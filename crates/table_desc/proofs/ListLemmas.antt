@@ -1,7 +1,8 @@
 -- General facts on lists and options.
 use Rattle.std.proofs.Common.{◌≡◌, ℕ, zero, suc, ◌<◌, ◌++◌, List, [], ◌∷◌, Option, Some, None}
-use Rattle.std.proofs.Common.{Bool, true, false, length, subst, refl, arith, rules}
-use Rattle.std.specs.Prelude.{option_map, slice_get, if◌then◌else◌}
+use Rattle.std.proofs.Common.{Bool, true, false, length, map, subst, refl, ap, arith, rules}
+use Rattle.std.specs.Prelude.{option_map, slice_get, if◌then◌else◌, ◌||◌}
+use Rattle.std.specs.List.{list_any}
 use Rattle.std.proofs.lemmas.Option.{same_Some}
 
 -- what is so of each place of a list, and of one more element at its end, is so of each place
@@ -34,3 +35,9 @@ pub option_map-some : {A B P : Type 0} (f : A → B) (o : Option A) (y : B)
     → option_map f o ≡ Some y → ((x : A) → o ≡ Some x → f x ≡ y → P) → P
 option_map-some f None y there go = absurd cc
 option_map-some f (Some x) y there go = go x refl (same_Some _ _ there)
+
+-- a test of what is made of elements is a test of them
+pub list_any-map : {X Y : Type 0} (f : X → Y) (test : Y → Bool) (xs : List X)
+    → list_any test (map f xs) ≡ list_any (λ x. test (f x)) xs
+list_any-map f test [] = refl
+list_any-map f test (x ∷ xs) = ap (λ others. test (f x) || others) (list_any-map f test xs)

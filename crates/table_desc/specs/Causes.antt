@@ -32,13 +32,6 @@ sources (Filter source conds keep) = source ∷ []
 sources (Group source keys aggs) = source ∷ []
 sources (Join left right on) = left ∷ right ∷ []
 
--- the names that a table gives to columns: a filter and a join give none
-abbrev pub given_names : WrittenKindOf → List (List ℕ)
-given_names (Raw feed time columns) = map (λ (column : WrittenColumnOf). column.name) columns
-given_names (Filter source conds keep) = []
-given_names (Group source keys aggs) = map (λ (agg : WrittenAggOf). agg.name) aggs
-given_names (Join left right on) = []
-
 -- the columns that are written for a table, by name: of a join none is
 abbrev pub written_names : WrittenKindOf → List (List ℕ)
 written_names (Raw feed time columns) = map (λ (column : WrittenColumnOf). column.name) columns
@@ -52,10 +45,18 @@ are_different [] = true
 are_different (word ∷ others) =
     not (list_any (bytes_eq word) others) && are_different others
 
--- BadName: a feed, a table, or a column that the table gives a name to, has none that is one
+-- whether a table gives a column a name that is none: a filter and a join give no names
+abbrev pub gives_bad_name : WrittenKindOf → Bool
+gives_bad_name (Raw feed time columns) =
+    list_any (λ (column : WrittenColumnOf). not (is_name column.name)) columns
+gives_bad_name (Filter source conds keep) = false
+gives_bad_name (Group source keys aggs) =
+    list_any (λ (agg : WrittenAggOf). not (is_name agg.name)) aggs
+gives_bad_name (Join left right on) = false
+
+-- BadName: a feed, a table, or a column that a table gives a name to, has none that is one
 abbrev pub has_bad_name : WrittenTableOf → Bool
-has_bad_name table =
-    not (is_name table.name) || list_any (λ name. not (is_name name)) (given_names table.kind)
+has_bad_name table = not (is_name table.name) || gives_bad_name table.kind
 
 -- DoubleName: an earlier table has the name, or two columns that are written have one name
 abbrev pub has_double_name : DescOf → WrittenTableOf → Bool

@@ -10,6 +10,7 @@ ghost use Rattle.table_desc.specs.Names.{find_feed, find_table};
 use crate::grammar::is_word;
 use crate::{Column, Desc, Feed, Table, Width};
 use depot_cell::{Memory, Str, Ty};
+use desc_lines::WrittenSource;
 use std::alloc::Global;
 
 /// The number of the feed with this name.
@@ -24,7 +25,8 @@ pub fn find_feed(desc: &Desc, name: &[u8]) -> Option<u16>
     }
 }
 
-fn place_of_feed(feeds: &[Feed], name: &[u8]) -> Option<usize>
+/// The place of the feed with this name.
+pub(crate) fn place_of_feed(feeds: &[Feed], name: &[u8]) -> Option<usize>
     ensures exact { result ≡ position (λ feed. bytes_eq feed.name name.now) feeds.now }
     ensures within { IfSome result (λ feed. feed < length feeds.now) }
 {
@@ -45,7 +47,8 @@ pub fn find_table(desc: &Desc, name: &[u8]) -> Option<u16>
     }
 }
 
-fn place_of_table(tables: &[Table], name: &[u8]) -> Option<usize>
+/// The place of the table with this name.
+pub(crate) fn place_of_table(tables: &[Table], name: &[u8]) -> Option<usize>
     ensures exact { result ≡ position (λ table. bytes_eq table.name name.now) tables.now }
     ensures within { IfSome result (λ table. table < length tables.now) }
 {
@@ -54,21 +57,21 @@ fn place_of_table(tables: &[Table], name: &[u8]) -> Option<usize>
         .position(|table| is_word(table.name.as_bytes(), name))
 }
 
-/// The columns of the table with this name, none if there is no such table.
-pub(crate) fn source_columns<'a>(desc: &'a Desc, name: &[u8]) -> &'a [Column]
-    ensures exact { result.now ≡ source_columns desc.now name.now }
+/// The columns of a source, none if there is no such table.
+pub(crate) fn source_columns<'a>(desc: &'a Desc, source: &WrittenSource) -> &'a [Column]
+    ensures exact { result.now ≡ source_columns desc.now source.now.table }
 {
-    match place_of_table(&desc.tables, name) {
+    match place_of_table(&desc.tables, source.table) {
         Some(table) => &desc.tables[table].columns,
         None => &[],
     }
 }
 
-/// The width of the table with this name, 1 if there is no such table.
-pub(crate) fn source_width(desc: &Desc, name: &[u8]) -> Width
-    ensures exact { result ≡ source_width desc.now name.now }
+/// The width of a source, 1 if there is no such table.
+pub(crate) fn source_width(desc: &Desc, source: &WrittenSource) -> Width
+    ensures exact { result ≡ source_width desc.now source.now.table }
 {
-    match place_of_table(&desc.tables, name) {
+    match place_of_table(&desc.tables, source.table) {
         Some(table) => desc.tables[table].width,
         None => Width::new(1),
     }

@@ -1,7 +1,13 @@
 //! The reading of a description: what its lines declare, or the first bad line and why it is bad.
 
+mod absent;
+mod causes;
 mod fault;
+mod fitting;
+mod named;
 mod ticks;
+mod typed;
+mod utf8;
 
 pub use fault::{DescCause, DescFault};
 pub use ticks::read_width;

@@ -5,6 +5,7 @@ ghost use Rattle.table_desc.specs.Ticks.{read_offset, read_span, read_ticks, rea
 
 use crate::{END, Span, Width};
 use depot_cell::read_number;
+use desc_lines::WrittenSource;
 
 /// The width that a word says.
 pub fn read_width(word: &[u8]) -> Option<Width>
@@ -16,11 +17,11 @@ pub fn read_width(word: &[u8]) -> Option<Width>
     }
 }
 
-/// The span that two words say: how far a view reads before its own ticks, and how far after them.
-pub fn read_span(lo: &[u8], hi: &[u8]) -> Option<Span>
-    ensures exact { result ≡ read_span lo.now hi.now }
+/// The span that is read of a source: from how far before the view's own ticks, to how far after.
+pub fn read_span(source: &WrittenSource) -> Option<Span>
+    ensures exact { result ≡ read_span source.now.lo source.now.hi }
 {
-    match (read_offset(lo), read_offset(hi)) {
+    match (read_offset(source.lo), read_offset(source.hi)) {
         (Some(lo), Some(hi)) => Some(Span { lo, hi }),
         _ => None,
     }
