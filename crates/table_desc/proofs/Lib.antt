@@ -1,3 +1,4 @@
+pub mod ColumnNameLemmas
 pub mod BoolLemmas
 pub mod DifferentLemmas
 pub mod ListLemmas

@@ -1,8 +1,11 @@
 -- General facts on lists and options.
 use Rattle.std.proofs.Common.{◌≡◌, ℕ, zero, suc, ◌<◌, ◌++◌, List, [], ◌∷◌, Option, Some, None}
-use Rattle.std.proofs.Common.{Bool, true, false, length, map, subst, refl, ap, arith, rules}
+use Rattle.std.proofs.Common.{Bool, true, false, ◌+◌, ◌∙◌, get_or, length, map, take, subst, refl, ap}
+use Rattle.std.proofs.Common.{arith, rules}
 use Rattle.std.specs.Prelude.{option_map, slice_get, if◌then◌else◌, ◌||◌}
-use Rattle.std.specs.List.{list_any}
+use Rattle.std.specs.List.{cons_option, filter_map, list_any}
+use Rattle.std.proofs.lemmas.List.{take_more}
+use Rattle.std.proofs.lemmas.List.Elements.{filter_map-append}
 use Rattle.std.proofs.lemmas.Option.{same_Some}
 
 -- what is so of each place of a list, and of one more element at its end, is so of each place
@@ -41,3 +44,12 @@ pub list_any-map : {X Y : Type 0} (f : X → Y) (test : Y → Bool) (xs : List X
     → list_any test (map f xs) ≡ list_any (λ x. test (f x)) xs
 list_any-map f test [] = refl
 list_any-map f test (x ∷ xs) = ap (λ others. test (f x) || others) (list_any-map f test xs)
+
+-- what a function gives of one item more
+pub filter_map-take : {X Y : Type 0} (f : X → Option Y) (xs : List X) (place : ℕ) (default : X)
+    → place < length xs
+    → filter_map f (take (place + 1) xs)
+    ≡ filter_map f (take place xs) ++ cons_option (f (get_or xs place default)) []
+filter_map-take f xs place default within =
+    ap (filter_map f) (take_more xs place default within)
+    ∙ filter_map-append f (take place xs) (get_or xs place default ∷ [])

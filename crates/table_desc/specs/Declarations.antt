@@ -1,6 +1,6 @@
 -- What a line declares, if nothing speaks against it. Where something does, numbers are 0.
 use Rattle.std.specs.Prelude.{ℕ, pos, List, [], ◌∷◌, ◌++◌, Option, Some, None, map, codes}
-use Rattle.std.specs.Prelude.{filter_map, option_map, position, slice_get, unwrap_or}
+use Rattle.std.specs.Prelude.{filter_map, option_map, position, slice_get, unwrap_or, length, ◌≤◌}
 use Rattle.std.specs.Str.{bytes_eq}
 use Rattle.std.specs.Result.{result_ok}
 use Rattle.depot_cell.specs.declared.cell.Cell.{Cell}
@@ -108,6 +108,10 @@ agg_column columns agg =
 -- a column of a join: under a prefix
 abbrev pub prefixed : (prefix : List ℕ) → Column → Column
 prefixed prefix column = record column { name = prefix ++ column.name }
+
+-- a column whose name leaves room for a prefix
+abbrev pub LeavesRoom : Column → Type 0
+LeavesRoom column = length column.name ≤ 253
 
 -- the columns of a join: the left ones under `l_`, then the right ones under `r_`
 abbrev pub joined_columns : (left right : List Column) → List Column

@@ -5,6 +5,7 @@ mod causes;
 mod fault;
 mod fitting;
 mod named;
+mod parts;
 mod ticks;
 mod typed;
 mod utf8;
