@@ -1,7 +1,15 @@
-pub mod ColumnNameLemmas
 pub mod BoolLemmas
-pub mod DifferentLemmas
 pub mod ListLemmas
+pub mod DifferentLemmas
+pub mod ColumnNameLemmas
+pub mod LookupLemmas
+pub mod GrownLemmas
+pub mod NamesLemmas
+pub mod JoinLemmas
+pub mod KeptLemmas
+pub mod PartsLemmas
+pub mod RawLemmas
+pub mod FineLemmas
 pub mod FrontLemmas
 pub mod NameLemmas
 pub mod ColumnLemmas

@@ -2,10 +2,11 @@
 use Rattle.std.proofs.Common.{◌≡◌, ℕ, zero, suc, ◌<◌, ◌++◌, List, [], ◌∷◌, Option, Some, None}
 use Rattle.std.proofs.Common.{Bool, true, false, ◌+◌, ◌∙◌, get_or, length, map, take, subst, refl, ap}
 use Rattle.std.proofs.Common.{arith, rules}
-use Rattle.std.specs.Prelude.{option_map, slice_get, if◌then◌else◌, ◌||◌}
+use Rattle.std.specs.Prelude.{option_map, slice_get, if◌then◌else◌, ◌||◌, not, All}
 use Rattle.std.specs.List.{cons_option, filter_map, list_any}
 use Rattle.std.proofs.lemmas.List.{take_more}
-use Rattle.std.proofs.lemmas.List.Elements.{filter_map-append}
+use Rattle.std.proofs.lemmas.List.Elements.{filter_map-append, All-cons, All-nil, All-weaker}
+use Rattle.table_desc.proofs.BoolLemmas.{or-none, not-false}
 use Rattle.std.proofs.lemmas.Option.{same_Some}
 
 -- what is so of each place of a list, and of one more element at its end, is so of each place
@@ -53,3 +54,17 @@ pub filter_map-take : {X Y : Type 0} (f : X → Option Y) (xs : List X) (place :
 filter_map-take f xs place default within =
     ap (filter_map f) (take_more xs place default within)
     ∙ filter_map-append f (take place xs) (get_or xs place default ∷ [])
+
+-- a test that no item passes
+pub list_any-none : {X : Type 0} (test : X → Bool) (xs : List X) → list_any test xs ≡ false
+    → All (λ x. test x ≡ false) xs
+list_any-none test [] none = All-nil (λ x. test x ≡ false)
+list_any-none test (x ∷ xs) none =
+    let parts = or-none (test x) (list_any test xs) none in
+    All-cons (λ x. test x ≡ false) x xs parts.0 (list_any-none test xs parts.1)
+
+-- a test that each item passes, since none passes its opposite
+pub list_any-not : {X : Type 0} (test : X → Bool) (xs : List X)
+    → list_any (λ x. not (test x)) xs ≡ false → All (λ x. test x ≡ true) xs
+list_any-not test xs none = All-weaker (λ x. not (test x) ≡ false) (λ x. test x ≡ true)
+    (λ x. not-false (test x)) xs (list_any-none (λ x. not (test x)) xs none)

@@ -114,7 +114,7 @@ pub record IsSource (desc : DescOf) (number width : ℕ) (source : Src) : Type 0
 pub record IsTable (desc : DescOf) (number : ℕ) (table : TableOf) : Type 0 where
   pub some : 0 < length table.columns
   pub few : length table.columns ≤ 16
-  pub named : All (NamesColumn number) (column_names table.columns)
+  pub named : All (λ (column : Column). NamesColumn number column.name) table.columns
   pub different : are_different (column_names table.columns) ≡ true
   pub width : IsWidth table.width
   pub sources : All (IsSource desc number table.width) (kind_sources table.kind)

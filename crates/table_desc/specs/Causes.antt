@@ -1,7 +1,7 @@
 -- Why a line that has a shape is bad: a test for each cause, and the first one that holds.
 use Rattle.std.specs.Prelude.{ℕ, List, [], ◌∷◌, ◌++◌, Option, Some, None, Bool, true, false}
 use Rattle.std.specs.Prelude.{not, ◌==◌, ◌&&◌, ◌||◌, ◌+◌, ◌%◌, nat_le, nat_lt, if◌then◌else◌}
-use Rattle.std.specs.Prelude.{length, map, is_some, is_none, codes}
+use Rattle.std.specs.Prelude.{length, map, is_some, is_none, codes, position, slice_get, option_and_then}
 use Rattle.std.specs.Str.{bytes_eq}
 use Rattle.std.specs.List.{list_any}
 use Rattle.std.specs.Result.{result_ok}
@@ -76,6 +76,11 @@ is_absent desc source = is_none (find_table desc source.table)
 abbrev pub lacks_source : DescOf → WrittenKindOf → Bool
 lacks_source desc kind = list_any (is_absent desc) (sources kind)
 
+-- the place of the column that a raw table declares with this name
+abbrev pub written_place : List WrittenColumnOf → List ℕ → Option ℕ
+written_place columns name =
+    position (λ (column : WrittenColumnOf). bytes_eq column.name name) columns
+
 -- whether no column has this name
 abbrev pub lacks : List Column → List ℕ → Bool
 lacks columns name = is_none (find_column columns name)
@@ -91,8 +96,7 @@ lacks_side left right pair = lacks left pair.left || lacks right pair.right
 
 -- NoColumn: the time column is none of the new columns, or another column is not in its source
 abbrev pub lacks_column : DescOf → WrittenKindOf → Bool
-lacks_column desc (Raw feed time columns) =
-    not (list_any (λ (column : WrittenColumnOf). bytes_eq column.name time) columns)
+lacks_column desc (Raw feed time columns) = is_none (written_place columns time)
 lacks_column desc (Filter source conds keep) =
     list_any (λ (cond : WrittenCondOf). lacks (source_columns desc source.table) cond.column) conds
     || list_any (lacks (source_columns desc source.table)) keep
@@ -103,9 +107,15 @@ lacks_column desc (Group source keys aggs) =
 lacks_column desc (Join left right on) = list_any
     (lacks_side (source_columns desc left.table) (source_columns desc right.table)) on
 
--- whether a column of a raw table is the int column with this name
-abbrev pub is_time : (time : List ℕ) → WrittenColumnOf → Bool
-is_time time column = bytes_eq column.name time && bytes_eq column.ty (codes "int")
+-- the type of the time column of a raw table
+abbrev pub time_type : List WrittenColumnOf → (time : List ℕ) → Option Ty
+time_type columns time = option_and_then (λ (column : WrittenColumnOf). read_type column.ty)
+    (option_and_then (slice_get columns) (written_place columns time))
+
+-- whether there is a type, and it is that of texts
+abbrev pub is_text : Option Ty → Bool
+is_text (Some ty.Text) = true
+is_text _ = false
 
 -- whether a word is no value of a column's type
 abbrev pub is_odd_literal : Option Ty → List ℕ → Bool
@@ -144,7 +154,7 @@ is_odd_pair left right pair =
 abbrev pub has_bad_type : DescOf → WrittenKindOf → Bool
 has_bad_type desc (Raw feed time columns) =
     list_any (λ (column : WrittenColumnOf). is_none (read_type column.ty)) columns
-    || not (list_any (is_time time) columns)
+    || is_text (time_type columns time)
 has_bad_type desc (Filter source conds keep) =
     list_any (has_odd_literal (source_columns desc source.table)) conds
 has_bad_type desc (Group source keys aggs) =

@@ -1,6 +1,6 @@
 -- What a line declares, if nothing speaks against it. Where something does, numbers are 0.
 use Rattle.std.specs.Prelude.{ℕ, pos, List, [], ◌∷◌, ◌++◌, Option, Some, None, map, codes}
-use Rattle.std.specs.Prelude.{filter_map, option_map, position, slice_get, unwrap_or, length, ◌≤◌}
+use Rattle.std.specs.Prelude.{filter_map, option_map, position, slice_get, unwrap_or, length, All, ◌≡◌, ◌≤◌, true}
 use Rattle.std.specs.Str.{bytes_eq}
 use Rattle.std.specs.Result.{result_ok}
 use Rattle.depot_cell.specs.declared.cell.Cell.{Cell}
@@ -10,6 +10,7 @@ use Rattle.depot_cell.specs.Reading.{cell_of}
 use Rattle.partition_map.specs.declared.time.Span.{Span}
 use Rattle.desc_lines.specs.declared.fun.Fun.{Fun}
 use Rattle.desc_lines.specs.declared.fun.Fun.TheVariants as fun
+use Rattle.desc_lines.specs.Names.{is_name}
 use Rattle.desc_lines.specs.Written.{WrittenAggOf, WrittenColumnOf, WrittenCondOf, WrittenKindOf}
 use Rattle.desc_lines.specs.Written.{WrittenLineOf, WrittenPairOf, WrittenSourceOf, WrittenTableOf}
 use Rattle.desc_lines.specs.Written.{Raw, Filter, Group, Join, FeedLine, TableLine}
@@ -21,6 +22,7 @@ use Rattle.table_desc.specs.declared.view.Pair.{Pair}
 use Rattle.table_desc.specs.declared.view.Src.{Src}
 use Rattle.table_desc.specs.KindValues as kind
 use Rattle.table_desc.specs.KindValues.{KindOf}
+use Rattle.table_desc.specs.Causes.{written_place}
 use Rattle.table_desc.specs.Descriptions.{DescOf}
 use Rattle.table_desc.specs.Tables.{TableOf}
 use Rattle.table_desc.specs.Names.{find_feed, find_table}
@@ -42,8 +44,7 @@ declared_column column = record { name = column.name; ty = unwrap_or (read_type 
 
 -- the number of the column that a raw table declares with this name
 abbrev pub time_number : List WrittenColumnOf → (time : List ℕ) → ℕ
-time_number columns time =
-    found (position (λ (column : WrittenColumnOf). bytes_eq column.name time) columns)
+time_number columns time = found (written_place columns time)
 
 -- the span of just a partition's own ticks
 abbrev pub own_ticks : Span
@@ -143,6 +144,29 @@ declared_join left right left_source right_source on = record {
   columns = joined_columns left right;
   kind = kind.Join left_source right_source (map (declared_pair left right) on);
 }
+
+-- what has to be so of a raw table, a filter, a group and a join before it can be made: numbers are
+-- small, and names are short
+pub record IsReadyRaw (desc : DescOf) (columns : List WrittenColumnOf) : Type 0 where
+  pub feeds : length desc.feeds ≤ 16
+  pub few : length columns ≤ 16
+  pub named : All (λ (column : WrittenColumnOf). is_name column.name ≡ true) columns
+
+pub record IsReadySource (desc : DescOf) (source : WrittenSourceOf) : Type 0 where
+  pub tables : length desc.tables ≤ 64
+  pub few : length (source_columns desc source.table) ≤ 16
+  pub room : All LeavesRoom (source_columns desc source.table)
+
+pub record IsReadyGroup (desc : DescOf) (source : WrittenSourceOf) (aggs : List WrittenAggOf)
+    : Type 0 where
+  pub ready : IsReadySource desc source
+  pub named : All (λ (agg : WrittenAggOf). is_name agg.name ≡ true) aggs
+
+abbrev pub IsReady : DescOf → WrittenKindOf → Type 0
+IsReady desc (Raw feed time columns) = IsReadyRaw desc columns
+IsReady desc (Filter source conds keep) = IsReadySource desc source
+IsReady desc (Group source keys aggs) = IsReadyGroup desc source aggs
+IsReady desc (Join left right on) = IsReadySource desc left × IsReadySource desc right
 
 -- what fills a table that a line declares
 abbrev pub declared_filling : DescOf → WrittenKindOf → FillingOf

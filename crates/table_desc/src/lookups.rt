@@ -7,10 +7,9 @@ ghost use Rattle.table_desc.specs.Lookups.{find_column, find_type, read_type, so
 ghost use Rattle.table_desc.specs.Lookups.{source_width};
 ghost use Rattle.table_desc.specs.Names.{find_feed, find_table};
 
-use crate::grammar::is_word;
 use crate::{Column, Desc, Feed, Table, Width};
 use depot_cell::{Memory, Str, Ty};
-use desc_lines::WrittenSource;
+use desc_lines::{WrittenSource, is_word};
 use std::alloc::Global;
 
 /// The number of the feed with this name.

@@ -2,6 +2,8 @@
 
 mod absent;
 mod causes;
+mod declaring;
+mod describing;
 mod fault;
 mod fitting;
 mod named;
@@ -9,6 +11,8 @@ mod parts;
 mod ticks;
 mod typed;
 mod utf8;
+mod written;
 
+pub use describing::read_desc;
 pub use fault::{DescCause, DescFault};
 pub use ticks::read_width;

@@ -9,10 +9,12 @@ ghost use Rattle.table_desc.specs.Causes.{is_absent, lacks, lacks_column, lacks_
 ghost use Rattle.table_desc.specs.Causes.{lacks_some, lacks_source};
 ghost use Rattle.table_desc.specs.Names.{find_feed};
 
-use crate::grammar::is_word;
 use crate::lookups::{place_of_column, place_of_feed, place_of_table, source_columns};
+use crate::reading::written::written_place;
 use crate::{Column, Desc};
-use desc_lines::{WrittenAgg, WrittenColumn, WrittenCond, WrittenKind, WrittenPair, WrittenSource};
+use desc_lines::{
+    WrittenAgg, WrittenColumn, WrittenCond, WrittenKind, WrittenPair, WrittenSource, is_word,
+};
 
 /// Whether a raw table is of a feed that was not declared.
 pub fn lacks_feed(desc: &Desc, kind: &WrittenKind) -> bool
@@ -53,7 +55,7 @@ pub fn lacks_column(desc: &Desc, kind: &WrittenKind) -> bool
     ensures exact { result ≡ lacks_column desc.now (written_kind kind.now) }
 {
     match kind {
-        WrittenKind::Raw { time, columns, .. } => !is_declared(columns, time),
+        WrittenKind::Raw { time, columns, .. } => written_place(columns, time).is_none(),
         WrittenKind::Filter {
             source,
             conds,
@@ -71,13 +73,6 @@ pub fn lacks_column(desc: &Desc, kind: &WrittenKind) -> bool
             lack_side(left, source_columns(desc, right), on)
         }
     }
-}
-
-fn is_declared(columns: &[WrittenColumn], name: &[u8]) -> bool
-    ensures exact { result
-        ≡ list_any (λ (column : WrittenColumnOf). bytes_eq column.name name.now) columns.now }
-{
-    columns.iter().any(|column| is_word(column.name, name))
 }
 
 fn lack(columns: &[Column], name: &[u8]) -> bool

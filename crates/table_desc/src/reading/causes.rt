@@ -6,7 +6,6 @@ ghost use Rattle.desc_lines.specs.WrittenLines.{written_line};
 ghost use Rattle.table_desc.specs.Causes.{cause_of, feed_tests, first_cause, written_names};
 
 use crate::Desc;
-use crate::grammar::is_name;
 use crate::lookups::place_of_feed;
 use crate::reading::absent::{lacks_column, lacks_feed, lacks_source};
 use crate::reading::fault::DescCause;
@@ -14,7 +13,7 @@ use crate::reading::fitting::{has_bad_span, has_bad_width, makes_too_many};
 use crate::reading::named::{has_bad_name, has_double_name, written_names};
 use crate::reading::typed::has_bad_type;
 use depot_cell::Memory;
-use desc_lines::{WrittenLine, WrittenTable};
+use desc_lines::{WrittenLine, WrittenTable, is_name};
 use std::alloc::Global;
 
 /// The most feeds of a description.

@@ -11,10 +11,9 @@ ghost use Rattle.table_desc.specs.Causes.{written_names};
 ghost use Rattle.table_desc.specs.Names.{find_table};
 
 use crate::Desc;
-use crate::grammar::{is_name, is_word};
 use crate::lookups::place_of_table;
 use depot_cell::Memory;
-use desc_lines::{WrittenAgg, WrittenColumn, WrittenKind, WrittenTable};
+use desc_lines::{WrittenAgg, WrittenColumn, WrittenKind, WrittenTable, is_name, is_word};
 use std::alloc::Global;
 
 /// Whether a name that a table's line declares is none.

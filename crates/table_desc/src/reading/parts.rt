@@ -17,12 +17,13 @@ ghost use Rattle.table_desc.specs.Declarations.{value_of};
 ghost use Rattle.table_desc.specs.declared.table.Column.{Column as ColumnOf};
 ghost use Rattle.table_desc.specs.Declarations.{LeavesRoom};
 
-use crate::grammar::{field_cell, is_word};
+use crate::grammar::field_cell;
 use crate::lookups::{find_column, find_table, find_type, kept_columns, read_type};
 use crate::reading::ticks::read_span;
+use crate::reading::written::written_place;
 use crate::{Agg, Column, Cond, Desc, Fun, Pair, Span, Src};
 use depot_cell::{Cell, Memory, Str, Ty};
-use desc_lines::{WrittenAgg, WrittenColumn, WrittenCond, WrittenPair, WrittenSource};
+use desc_lines::{WrittenAgg, WrittenColumn, WrittenCond, WrittenPair, WrittenSource, is_word};
 use std::alloc::Global;
 
 /// The span of just a partition's own ticks.
@@ -65,18 +66,10 @@ pub fn time_number(columns: &[WrittenColumn], time: &[u8]) -> u16
     requires few { length columns.now ≤ 16 }
     ensures exact { result ≡ time_number columns.now time.now }
 {
-    match place_of_time(columns, time) {
+    match written_place(columns, time) {
         Some(number) => number as u16,
         None => 0,
     }
-}
-
-fn place_of_time(columns: &[WrittenColumn], time: &[u8]) -> Option<usize>
-    ensures exact { result
-        ≡ position (λ (column : WrittenColumnOf). bytes_eq column.name time.now) columns.now }
-    ensures within { IfSome result (λ number. number < length columns.now) }
-{
-    columns.iter().position(|column| is_word(column.name, time))
 }
 
 /// A source of a view.

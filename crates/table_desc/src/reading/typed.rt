@@ -5,17 +5,17 @@ ghost use Rattle.std.specs.List.{list_any};
 ghost use Rattle.depot_cell.specs.Numbers.{int_of};
 ghost use Rattle.desc_lines.specs.Written.{WrittenColumnOf};
 ghost use Rattle.desc_lines.specs.WrittenKinds.{written_kind};
-ghost use Rattle.table_desc.specs.Causes.{has_bad_type, has_odd_literal, have_two_types, is_time};
+ghost use Rattle.table_desc.specs.Causes.{has_bad_type, has_odd_literal, have_two_types, is_text};
 ghost use Rattle.table_desc.specs.Causes.{is_odd_literal, is_odd_pair, is_text_sum, sums_texts};
-ghost use Rattle.table_desc.specs.Causes.{type_over};
+ghost use Rattle.table_desc.specs.Causes.{time_type, type_over};
 ghost use Rattle.table_desc.specs.Lookups.{read_type};
 
-use crate::grammar::is_word;
 use crate::lookups::{find_type, read_type, source_columns};
 use crate::reading::utf8::is_utf8;
+use crate::reading::written::written_place;
 use crate::{Column, Desc, Fun};
 use depot_cell::{Ty, read_cell};
-use desc_lines::{WrittenAgg, WrittenColumn, WrittenCond, WrittenKind, WrittenPair};
+use desc_lines::{WrittenAgg, WrittenColumn, WrittenCond, WrittenKind, WrittenPair, is_word};
 use std::alloc::Global;
 
 /// The most bytes of a text.
@@ -27,7 +27,7 @@ pub fn has_bad_type(alloc: Global, desc: &Desc, kind: &WrittenKind) -> bool
 {
     match kind {
         WrittenKind::Raw { time, columns, .. } => {
-            has_odd_type(columns) || !has_time(columns, time)
+            has_odd_type(columns) || has_text_time(columns, time)
         }
         WrittenKind::Filter { source, conds, .. } => {
             have_odd_literal(alloc, source_columns(desc, source), conds)
@@ -49,10 +49,31 @@ fn has_odd_type(columns: &[WrittenColumn]) -> bool
     columns.iter().any(|column| read_type(column.ty).is_none())
 }
 
-fn has_time(columns: &[WrittenColumn], time: &[u8]) -> bool
-    ensures exact { result ≡ list_any (is_time time.now) columns.now }
+fn has_text_time(columns: &[WrittenColumn], time: &[u8]) -> bool
+    ensures exact { result ≡ is_text (time_type columns.now time.now) }
 {
-    columns.iter().any(|column| is_word(column.name, time) && is_word(column.ty, b"int"))
+    is_text(time_type(columns, time))
+}
+
+fn time_type(columns: &[WrittenColumn], time: &[u8]) -> Option<Ty>
+    ensures exact { result ≡ time_type columns.now time.now }
+{
+    match written_place(columns, time) {
+        Some(place) => {
+            let column = &columns[place];
+            read_type(column.ty)
+        }
+        None => None,
+    }
+}
+
+fn is_text(ty: Option<Ty>) -> bool
+    ensures exact { result ≡ is_text ty }
+{
+    match ty {
+        Some(Ty::Text) => true,
+        _ => false,
+    }
 }
 
 fn have_odd_literal(alloc: Global, columns: &[Column], conds: &[WrittenCond]) -> bool
