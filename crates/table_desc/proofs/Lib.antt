@@ -10,6 +10,10 @@ pub mod KeptLemmas
 pub mod PartsLemmas
 pub mod RawLemmas
 pub mod FineLemmas
+pub mod FilledLemmas
+pub mod SourceLemmas
+pub mod AcceptedLemmas
+pub mod TextLemmas
 pub mod FrontLemmas
 pub mod NameLemmas
 pub mod ColumnLemmas

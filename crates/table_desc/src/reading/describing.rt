@@ -80,7 +80,6 @@ fn with_numbered(alloc: Global, desc: Desc, number: u64, line: &[u8]) -> Result<
 fn with_line(alloc: Global, desc: Desc, line: &[u8]) -> Result<Result<Desc, DescCause>, Memory>
     requires accepted { IsAccepted desc }
     ensures exact { IfOk result (λ read. read ≡ with_line desc line.now) }
-    ensures accepted { IfOk result (λ read. IfOk read IsAccepted) }
 {
     let words = words_of(alloc, line)?;
     if is_skipped(&words) {

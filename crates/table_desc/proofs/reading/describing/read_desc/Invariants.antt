@@ -1,0 +1,16 @@
+-- the description so far, with the lines that are left, is that of the text
+use Rattle.std.proofs.Common.{◌≡◌, ◌≤◌, ◌+◌, length}
+use Rattle.desc_lines.specs.Texts.{lines_of}
+use Rattle.table_desc.specs.Accepted.{IsAccepted}
+use Rattle.table_desc.specs.Described.{described, with_lines}
+use Rattle.table_desc.proofs.reading.describing.read_desc.Given as goal
+
+abbrev pub invariant-loop-end : goal.invariant-loop-end
+invariant-loop-end l = record {
+  described : with_lines l.number l.desc (lines_of l.rest) ≡ described l.bytes;
+  accepted : IsAccepted l.desc;
+  within : l.number + length l.rest ≤ length l.bytes + 1;
+}
+
+abbrev pub decreases-loop-end : goal.decreases-loop-end
+decreases-loop-end l = length l.rest
