@@ -5,6 +5,7 @@ use Rattle.std.proofs.Common.{subst, arith, get_or}
 use Rattle.std.specs.Prelude.{position, nat_lt, All, if◌then◌else◌}
 use Rattle.std.specs.List.{position_or_len, slice_split, before_first, after_first}
 use Rattle.std.specs.Io.BufRead.{strip_last}
+use Rattle.std.specs.Result.{IsErrAnd}
 use Rattle.std.proofs.lemmas.Bool.{ltb-true, ltb-false}
 use Rattle.std.proofs.lemmas.List.Splits.{length-slice_split, slice_split_first, slice_split_none}
 use Rattle.std.proofs.lemmas.List.Sums.{fails_before_first}
@@ -79,3 +80,9 @@ with_lines-step number desc new line others read = by_line (with_line desc line)
     by_line (Ok next) read =
         ap (λ desc. with_lines (number + 1) desc others) (let same : next ≡ new = cc in same)
     by_line (Err cause) read = absurd cc
+
+-- a refusal that is handed on
+pub Err-passed : {T E : Type 0} (result : Result T E) (fault : E)
+    → IsErrAnd result (λ passed. passed ≡ fault) → result ≡ Err fault
+Err-passed (Ok value) fault is_passed = absurd is_passed
+Err-passed (Err passed) fault is_passed = cc

@@ -21,7 +21,7 @@ pub use grammar::{
     is_skipped, is_word, words_of,
 };
 pub use partition_map::{END, Span, Width};
-pub use reading::{DescCause, DescFault, read_desc};
+pub use reading::{DescCause, DescFault, described_is_accepted, read_desc};
 pub use served::ServedDesc;
 pub use table::{Column, Desc, Feed, Key, Table, compare_keys};
 pub use view::{Agg, Cond, Kind, Pair, Src};

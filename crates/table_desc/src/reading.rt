@@ -13,6 +13,6 @@ mod typed;
 mod utf8;
 mod written;
 
-pub use describing::read_desc;
+pub use describing::{described_is_accepted, read_desc};
 pub use fault::{DescCause, DescFault};
 pub use ticks::read_width;

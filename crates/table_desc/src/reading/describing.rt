@@ -4,7 +4,7 @@ ghost use Rattle.std.specs.Prelude.{◌≡◌, ◌<◌, Result, [], ◌∷◌, l
 ghost use Rattle.std.specs.Prelude.{IfOk, IfSome};
 ghost use Rattle.std.specs.Io.BufRead.{strip_last};
 ghost use Rattle.desc_lines.specs.WrittenLines.{written_line};
-ghost use Rattle.table_desc.specs.Accepted.{IsAccepted};
+ghost use Rattle.table_desc.specs.Accepted.{HasAccepted, IsAccepted};
 ghost use Rattle.table_desc.specs.Described.{Reads, described, no_desc, with_line, with_lines};
 ghost use Rattle.table_desc.specs.Described.{with_written};
 
@@ -108,3 +108,8 @@ fn with_written(
         None => Ok(Ok(with_declared(alloc, desc, line)?)),
     }
 }
+
+/// A law: what a text declares is accepted.
+pub fn described_is_accepted()
+    ensures law { HasAccepted }
+{}
