@@ -18,9 +18,9 @@ use Rattle.table_desc.specs.Descriptions.{DescOf}
 use Rattle.table_desc.specs.Tables.{TableOf}
 use Rattle.feed_csv.specs.Bodies.{cells_of, find_raw_table, has_header, records_of, row_of}
 use Rattle.feed_csv.specs.Bodies.{rows_from, rows_of, table_cells, without_header}
-use Rattle.table_desc.specs.Front.{with_first}
-use Rattle.table_desc.proofs.FrontLemmas.{with_first-none, with_front, with_front-push}
-use Rattle.table_desc.proofs.FrontLemmas.{with_front-empty}
+use Rattle.feed_csv.specs.Front.{with_first}
+use Rattle.feed_csv.proofs.FrontLemmas.{with_first-none, with_front, with_front-push}
+use Rattle.feed_csv.proofs.FrontLemmas.{with_front-empty}
 use Rattle.feed_csv.proofs.CsvRecords.{Yields, Yields-empty, Yields-step, records-le}
 
 -- as many cells as columns, or none

@@ -1,4 +1,5 @@
 pub mod ListLemmas
+pub mod FrontLemmas
 pub mod CsvRecords
 pub mod BodyLemmas
 pub mod RowLemmas

@@ -17,7 +17,7 @@ use Rattle.table_desc.specs.Descriptions.{DescOf}
 use Rattle.table_desc.specs.Tables.{TableOf}
 use Rattle.table_desc.specs.KindValues.{KindOf, Raw, Filter, Group, Join}
 use Rattle.partition_map.specs.Time.{END}
-use Rattle.table_desc.proofs.FrontLemmas.{with_first-some}
+use Rattle.feed_csv.proofs.FrontLemmas.{with_first-some}
 use Rattle.table_desc.proofs.ListLemmas.{option_map-some}
 use Rattle.view_meaning.specs.Journal.{FitsRow, IsRawOf, IsRowOf}
 use Rattle.feed_csv.specs.Bodies.{cells_of, find_raw_table, is_in_time, is_raw_of, records_of}

@@ -19,7 +19,7 @@ use Rattle.table_desc.specs.Tables.{TableOf}
 use Rattle.table_desc.specs.KindValues.{KindOf, Raw, Filter, Group, Join}
 use Rattle.partition_map.specs.Time.{END}
 use Rattle.view_meaning.specs.Journal.{row_tick}
-use Rattle.table_desc.specs.Front.{with_first}
+use Rattle.feed_csv.specs.Front.{with_first}
 
 -- whether a table is a raw one of this feed
 abbrev pub is_raw_of : ℕ → KindOf → Bool

@@ -18,14 +18,15 @@ ghost use Rattle.feed_csv.specs.Bodies.{find_raw_table, has_header, row_of, rows
 
 use csv::{ByteRecord, Reader, ReaderBuilder};
 use depot_cell::{Cell, Memory, Row};
+use desc_lines::is_word;
 use std::alloc::Global;
-use table_desc::{Column, DRow, END, Kind, ServedDesc, Table, field_cell, is_word};
+use table_desc::{AcceptedDesc, Column, DRow, END, Kind, Table, field_cell};
 
 /// The rows of a body of up to 16,777,216 bytes, or `None` if some record is no row. A header may
 /// hold anything. The vector keeps no spare room.
 pub fn read_rows(
     alloc: Global,
-    served: &ServedDesc,
+    served: &AcceptedDesc,
     feed: u16,
     body: &[u8],
 ) -> Result<Option<Vec<DRow>>, Memory>
@@ -51,7 +52,7 @@ pub fn rows_fit()
 /// The rows of the records of a body, of which the reader has read nothing yet.
 fn read_records(
     alloc: Global,
-    served: &ServedDesc,
+    served: &AcceptedDesc,
     feed: u16,
     mut reader: Reader<&[u8]>,
 ) -> Result<Option<Vec<DRow>>, Memory>
@@ -89,7 +90,7 @@ fn read_records(
 
 /// Whether the first record of this feed's bodies is a header. A number that names no feed has
 /// none.
-fn has_header(served: &ServedDesc, feed: u16) -> bool
+fn has_header(served: &AcceptedDesc, feed: u16) -> bool
     ensures exact { result ≡ has_header served.now.desc feed }
 {
     match served.desc.feeds.get(usize::from(feed)) {
@@ -101,7 +102,7 @@ fn has_header(served: &ServedDesc, feed: u16) -> bool
 /// The row that the record with this number is, if it is one.
 fn read_row(
     alloc: Global,
-    served: &ServedDesc,
+    served: &AcceptedDesc,
     feed: u16,
     number: u32,
     fields: &ByteRecord,
@@ -126,7 +127,7 @@ fn read_row(
 }
 
 /// The number of the feed's raw table with this name.
-fn find_raw_table(served: &ServedDesc, feed: u16, name: &[u8]) -> Option<u16>
+fn find_raw_table(served: &AcceptedDesc, feed: u16, name: &[u8]) -> Option<u16>
     ensures exact { result ≡ find_raw_table served.now.desc feed name.now }
     ensures within { IfSome result (λ table. table < length served.now.desc.tables) }
 {

@@ -1,12 +1,12 @@
 -- What a text declares is accepted: `described-accepted`.
-use Rattle.std.proofs.Common.{◌≡◌, ◌∙◌, ℕ, ◌<◌, ◌≤◌, ◌+◌, ◌++◌, List, [], ◌∷◌, Option, Some, None}
-use Rattle.std.proofs.Common.{Bool, true, false, not, Result, Ok, Err, length, map, refl, ap, sym}
+use Rattle.std.proofs.Common.{◌≡◌, ◌∙◌, ℕ, ◌≤◌, ◌+◌, List, [], ◌∷◌, Option, Some, None}
+use Rattle.std.proofs.Common.{Bool, true, false, not, Result, Ok, Err, length, map, refl}
 use Rattle.std.proofs.Common.{subst, arith, length-append}
-use Rattle.std.specs.Prelude.{All, is_some, nat_le, nat_lt, position, slice_get, unwrap_or, ◌||◌}
+use Rattle.std.specs.Prelude.{is_some, nat_lt, position}
 use Rattle.std.specs.Prelude.{if◌then◌else◌}
 use Rattle.std.specs.List.{list_any, position_or_len}
 use Rattle.std.specs.Str.{bytes_eq, is_utf8}
-use Rattle.std.proofs.lemmas.Bool.{ltb-false, ltb-true}
+use Rattle.std.proofs.lemmas.Bool.{ltb-false}
 use Rattle.std.proofs.lemmas.Bool.Decides.{nat_tests}
 use Rattle.std.proofs.lemmas.List.{map-append}
 use Rattle.std.proofs.lemmas.List.Elements.{All-nil}
@@ -18,21 +18,21 @@ use Rattle.desc_lines.specs.Names.{is_name}
 use Rattle.desc_lines.specs.Texts.{lines_of}
 use Rattle.desc_lines.specs.Whole.{IsWhole}
 use Rattle.desc_lines.specs.Words.{is_skipped, words}
-use Rattle.desc_lines.specs.Written.{WrittenKindOf, WrittenLineOf, WrittenTableOf}
+use Rattle.desc_lines.specs.Written.{WrittenLineOf, WrittenTableOf}
 use Rattle.desc_lines.specs.Written.{FeedLine, TableLine}
-use Rattle.desc_lines.proofs.ReadLemmas.{line_of-some}
+use Rattle.desc_lines.proofs.LineLemmas.{line_of-some}
 use Rattle.table_desc.specs.declared.reading.fault.DescCause.{DescCause}
 use Rattle.table_desc.specs.declared.reading.fault.DescCause.TheVariants as cause
 use Rattle.table_desc.specs.declared.table.Feed.{Feed}
 use Rattle.table_desc.specs.Descriptions.{DescOf}
 use Rattle.table_desc.specs.Tables.{TableOf}
-use Rattle.table_desc.specs.Names.{find_feed, find_table}
+use Rattle.table_desc.specs.Lookups.{find_table}
 use Rattle.table_desc.specs.Ticks.{read_width}
 use Rattle.table_desc.specs.Causes.{are_different, cause_of, feed_tests, gives_bad_name}
-use Rattle.table_desc.specs.Causes.{has_bad_width, misfits, sources, written_names}
-use Rattle.table_desc.specs.Declarations.{declared_filling, declared_table, with_declared}
+use Rattle.table_desc.specs.Causes.{written_names}
+use Rattle.table_desc.specs.Declarations.{declared_table, with_declared}
 use Rattle.table_desc.specs.Declarations.{with_feed, with_table}
-use Rattle.table_desc.specs.Described.{FaultOf, described, no_desc, unless_bad, then_lines}
+use Rattle.table_desc.specs.Described.{described, no_desc, unless_bad, then_lines}
 use Rattle.table_desc.specs.Described.{with_line, with_lines, with_written}
 use Rattle.table_desc.specs.Accepted.{IsAccepted, IsTable}
 use Rattle.table_desc.proofs.BoolLemmas.{not-false, or-none}
@@ -48,8 +48,11 @@ use Rattle.table_desc.proofs.SourceLemmas.{IsWidth-read, sources-fit}
 position-none : {X : Type 0} (test : X → Bool) (xs : List X) → is_some (position test xs) ≡ false
     → list_any test xs ≡ false
 position-none test xs none = list_any_none test xs (λ place default within.
-    fails_before_first test xs place default (omega (arith, within,
-    past (nat_lt (position_or_len test xs) (length xs)) refl none)))
+    fails_before_first test xs place default (omega (
+      arith,
+      within,
+      past (nat_lt (position_or_len test xs) (length xs)) refl none,
+    )))
   where
     past : (found : Bool) → nat_lt (position_or_len test xs) (length xs) ≡ found
         → is_some (if found then Some (position_or_len test xs) else None) ≡ false
@@ -181,7 +184,7 @@ IsAccepted-line desc new line accepted made =
     by_tests false false made = absurd cc
 
 -- and the lines of a text
-IsAccepted-lines : (number : ℕ) (desc new : DescOf) (lines : List (List ℕ)) → IsAccepted desc
+pub IsAccepted-lines : (number : ℕ) (desc new : DescOf) (lines : List (List ℕ)) → IsAccepted desc
     → with_lines number desc lines ≡ Ok new → IsAccepted new
 IsAccepted-lines number desc new [] accepted made =
     subst IsAccepted (let same : desc ≡ new = cc in same) accepted

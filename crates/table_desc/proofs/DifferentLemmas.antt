@@ -1,6 +1,6 @@
 -- Words of which no two are alike.
 use Rattle.std.proofs.Common.{◌≡◌, ℕ, ◌≤◌, Bor, Bool, true, false, not, List, [], ◌∷◌, map, drop}
-use Rattle.std.proofs.Common.{get_or, length, arith, refl, ap, sym, ◌∙◌}
+use Rattle.std.proofs.Common.{get_or, length, arith, ap, sym, ◌∙◌}
 use Rattle.std.specs.Prelude.{◌&&◌}
 use Rattle.std.specs.Str.{bytes_eq}
 use Rattle.std.specs.List.{list_any}

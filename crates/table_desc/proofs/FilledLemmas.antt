@@ -1,7 +1,7 @@
 -- What fills a table that a line declares, if no cause speaks against it: `IsFilled-fine`.
-use Rattle.std.proofs.Common.{◌≡◌, ◌∙◌, ℕ, ◌<◌, ◌≤◌, ◌+◌, ◌*◌, ◌++◌, List, [], ◌∷◌, Option, Some, None}
-use Rattle.std.proofs.Common.{Bool, true, false, not, length, map, refl, ap, sym, subst, arith}
-use Rattle.std.proofs.Common.{length-append, take, drop}
+use Rattle.std.proofs.Common.{◌≡◌, ◌∙◌, ℕ, ◌<◌, ◌≤◌, ◌++◌, List, [], ◌∷◌}
+use Rattle.std.proofs.Common.{true, false, length, map, refl, ap, sym, arith}
+use Rattle.std.proofs.Common.{length-append}
 use Rattle.std.specs.Prelude.{All, is_none, nat_lt}
 use Rattle.std.specs.List.{list_any}
 use Rattle.std.specs.Str.{bytes_eq}
@@ -18,17 +18,16 @@ use Rattle.desc_lines.specs.Written.{Raw, Filter, Group, Join}
 use Rattle.table_desc.specs.declared.table.Column.{Column}
 use Rattle.table_desc.specs.declared.table.Feed.{Feed}
 use Rattle.table_desc.specs.Descriptions.{DescOf}
-use Rattle.table_desc.specs.Names.{find_feed}
 use Rattle.table_desc.specs.Tables.{TableOf}
-use Rattle.table_desc.specs.Lookups.{read_type, source_columns}
-use Rattle.table_desc.specs.Causes.{are_different, count_columns, gives_bad_name, has_bad_type}
-use Rattle.table_desc.specs.Causes.{has_odd_literal, is_absent, is_text, is_text_sum, lacks}
+use Rattle.table_desc.specs.Lookups.{find_feed, read_type, source_columns}
+use Rattle.table_desc.specs.Causes.{are_different, gives_bad_name, has_bad_type}
+use Rattle.table_desc.specs.Causes.{is_absent, is_text, is_text_sum, lacks}
 use Rattle.table_desc.specs.Causes.{lacks_column, lacks_feed, lacks_some, lacks_source, time_type}
 use Rattle.table_desc.specs.Causes.{written_names}
 use Rattle.table_desc.specs.Declarations.{FillingOf, agg_column, agg_type, column_number}
 use Rattle.table_desc.specs.Declarations.{declared_agg, declared_column, declared_filling, declared_pair, found}
-use Rattle.table_desc.specs.Declarations.{joined_columns, kept_columns}
-use Rattle.table_desc.specs.Accepted.{IsAccepted, IsFilter, IsGroup, IsJoin, IsKind, NamesColumn}
+use Rattle.table_desc.specs.Declarations.{kept_columns}
+use Rattle.table_desc.specs.Accepted.{IsAccepted, IsGroup, IsKind, NamesColumn}
 use Rattle.table_desc.specs.Accepted.{column_names, column_types}
 use Rattle.table_desc.proofs.BoolLemmas.{or-none}
 use Rattle.table_desc.proofs.ListLemmas.{list_any-not}
@@ -232,16 +231,19 @@ IsFilled-join desc left right on accepted whole fine =
       different = joined-different left_columns right_columns
           (rw same_left table_left.different) (rw same_right table_right.different);
       kind = rw (
-            table_columns-found desc left.table earlier_left,
-            table_columns-found desc right.table earlier_right,
-          )
+        table_columns-found desc left.table earlier_left,
+        table_columns-found desc right.table earlier_right,
+      )
           (record {
-        some = omega (arith, length-map on (declared_pair left_columns right_columns), whole.some);
-        few = omega (arith, length-map on (declared_pair left_columns right_columns),
-            ltb-false 4 (length on) fine.few.parts);
-        each_pair = pairs-fit left_columns right_columns on fine.column fine.typed;
-        joined = refl;
-      });
+            some = omega (arith, length-map on (declared_pair left_columns right_columns), whole.some);
+            few = omega (
+              arith,
+              length-map on (declared_pair left_columns right_columns),
+              ltb-false 4 (length on) fine.few.parts,
+            );
+            each_pair = pairs-fit left_columns right_columns on fine.column fine.typed;
+            joined = refl;
+          });
     }
 
 -- so is each kind

@@ -1,7 +1,7 @@
 -- What is so of a table's line if no cause speaks against it: `IsFine-none`, and that what it
 -- declares can be made: `IsReady-fine`.
-use Rattle.std.proofs.Common.{◌≡◌, ◌∙◌, ℕ, ◌<◌, ◌≤◌, ◌+◌, ◌*◌, List, [], ◌∷◌, Option, Some, None}
-use Rattle.std.proofs.Common.{Bool, true, false, not, length, refl, sym, ap, subst, arith}
+use Rattle.std.proofs.Common.{◌≡◌, ℕ, ◌<◌, ◌≤◌, List, [], ◌∷◌, Option, Some, None}
+use Rattle.std.proofs.Common.{Bool, true, false, not, length, refl, arith}
 use Rattle.std.specs.Prelude.{⊤, All, ◌||◌, option_and_then, slice_get, nat_le, nat_lt}
 use Rattle.std.proofs.lemmas.Bool.Decides.{nat_tests}
 use Rattle.std.proofs.lemmas.Bool.{ltb-false}
@@ -15,8 +15,7 @@ use Rattle.table_desc.specs.declared.reading.fault.DescCause.{DescCause}
 use Rattle.table_desc.specs.declared.table.Column.{Column}
 use Rattle.table_desc.specs.Descriptions.{DescOf}
 use Rattle.table_desc.specs.Tables.{TableOf}
-use Rattle.table_desc.specs.Names.{find_table}
-use Rattle.table_desc.specs.Lookups.{columns_of, source_columns}
+use Rattle.table_desc.specs.Lookups.{columns_of, find_table, source_columns}
 use Rattle.table_desc.specs.Ticks.{read_width}
 use Rattle.table_desc.specs.Causes.{cause_of, count_columns, first_cause, gives_bad_name}
 use Rattle.table_desc.specs.Causes.{has_bad_name, has_bad_span, has_bad_type, has_bad_width}

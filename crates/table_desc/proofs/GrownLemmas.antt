@@ -1,5 +1,5 @@
 -- What is so of a description stays so if a feed or a table is added.
-use Rattle.std.proofs.Common.{◌≡◌, ◌∙◌, ℕ, ◌<◌, ◌≤◌, ◌++◌, List, [], ◌∷◌, Option, Some, length}
+use Rattle.std.proofs.Common.{◌≡◌, ℕ, ◌<◌, ◌≤◌, List, [], ◌∷◌, length}
 use Rattle.std.proofs.Common.{refl, sym, ap, subst, arith}
 use Rattle.std.specs.Prelude.{All, slice_get}
 use Rattle.std.proofs.lemmas.List.{length-append}
@@ -9,7 +9,7 @@ use Rattle.table_desc.specs.declared.view.Src.{Src}
 use Rattle.table_desc.specs.Descriptions.{DescOf}
 use Rattle.table_desc.specs.Tables.{TableOf}
 use Rattle.table_desc.specs.KindValues.{KindOf, Raw, Filter, Group, Join}
-use Rattle.table_desc.specs.Sources.{kind_sources, table_width, width_of}
+use Rattle.table_desc.specs.Sources.{kind_sources, width_of}
 use Rattle.table_desc.specs.Lookups.{columns_of, table_columns}
 use Rattle.table_desc.specs.Declarations.{with_feed, with_table}
 use Rattle.table_desc.specs.Accepted.{IsFilter, IsGroup, IsJoin, IsKind, IsSource, IsTable}

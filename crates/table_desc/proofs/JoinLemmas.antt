@@ -1,11 +1,11 @@
 -- The columns of a join: their names differ, and name columns.
-use Rattle.std.proofs.Common.{◌≡◌, ◌∙◌, ℕ, ◌<◌, ◌≤◌, ◌+◌, ◌*◌, ◌++◌, List, [], ◌∷◌, Bool, true, false}
-use Rattle.std.proofs.Common.{not, map, refl, ap, sym, length, arith, length-append}
-use Rattle.std.specs.Prelude.{All, ◌||◌, ◌&&◌, codes}
+use Rattle.std.proofs.Common.{◌≡◌, ◌∙◌, ℕ, ◌<◌, ◌+◌, ◌++◌, List, [], ◌∷◌, true, false}
+use Rattle.std.proofs.Common.{map, refl, ap, length, arith, length-append}
+use Rattle.std.specs.Prelude.{All, ◌||◌, codes}
 use Rattle.std.specs.Str.{bytes_eq}
 use Rattle.std.specs.List.{list_any}
 use Rattle.std.proofs.lemmas.List.{map-append, length-map}
-use Rattle.std.proofs.lemmas.List.Elements.{All-append, All-cons, All-map, All-nil, All-weaker}
+use Rattle.std.proofs.lemmas.List.Elements.{All-append, All-map, All-weaker}
 use Rattle.table_desc.specs.declared.table.Column.{Column}
 use Rattle.table_desc.specs.Causes.{are_different}
 use Rattle.table_desc.specs.Declarations.{joined_columns, prefixed}

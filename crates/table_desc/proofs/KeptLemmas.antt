@@ -1,16 +1,15 @@
 -- Columns that are named, and that numbers keep.
-use Rattle.std.proofs.Common.{◌≡◌, ◌∙◌, ℕ, ◌<◌, List, [], ◌∷◌, Option, Some, None, Bool, false}
-use Rattle.std.proofs.Common.{length, map, refl, ap, sym, subst}
+use Rattle.std.proofs.Common.{◌≡◌, ◌∙◌, ℕ, ◌+◌, ◌<◌, List, [], ◌∷◌, ◌++◌, Option, Some, None}
+use Rattle.std.proofs.Common.{false, length, map, take, get_or, refl, ap, sym, subst}
 use Rattle.std.specs.Prelude.{All, slice_get}
 use Rattle.std.specs.List.{cons_option, list_any}
 use Rattle.std.specs.Str.{bytes_eq}
-use Rattle.std.proofs.lemmas.List.{length-map}
-use Rattle.std.proofs.lemmas.List.Elements.{All-cons, All-map, All-nil, All-weaker}
+use Rattle.std.proofs.lemmas.List.{append-nil, length-map, take_more}
+use Rattle.std.proofs.lemmas.List.Elements.{All-cons, All-map, All-nil, All-weaker, filter_map-append}
 use Rattle.std.proofs.lemmas.Option.{get_or_from_slice_get, slice_get_within}
 use Rattle.table_desc.specs.declared.table.Column.{Column}
 use Rattle.table_desc.specs.Causes.{lacks}
 use Rattle.table_desc.specs.Declarations.{column_number, found, kept_columns}
-use Rattle.table_desc.specs.Lookups.{find_column}
 use Rattle.table_desc.specs.Accepted.{column_names}
 use Rattle.table_desc.proofs.BoolLemmas.{or-none}
 use Rattle.table_desc.proofs.ListLemmas.{list_any-none}
@@ -83,3 +82,29 @@ kept-each P columns (number ∷ numbers) each =
     by_column None there others = others
     by_column (Some column) there others = All-cons P column (kept_columns columns numbers)
         (All-there P columns number column each there) others
+
+-- one number more, and the columns that it keeps
+kept_columns-take : (columns : List Column) (numbers : List ℕ) (index : ℕ) → index < length numbers
+    → kept_columns columns (take (index + 1) numbers)
+    ≡ kept_columns columns (take index numbers)
+    ++ kept_columns columns (get_or numbers index 0 ∷ [])
+kept_columns-take columns numbers index within =
+    ap (kept_columns columns) (take_more numbers index 0 within)
+    ∙ filter_map-append (slice_get columns) (take index numbers) (get_or numbers index 0 ∷ [])
+
+-- the number of a column keeps it
+pub kept_columns-push : (columns : List Column) (numbers : List ℕ) (index number : ℕ)
+    (column : Column)
+    → index < length numbers → number ≡ get_or numbers index 0
+    → slice_get columns number ≡ Some column
+    → kept_columns columns (take (index + 1) numbers)
+    ≡ kept_columns columns (take index numbers) ++ column ∷ []
+kept_columns-push columns numbers index number column within here found =
+    rw (kept_columns-take columns numbers index within, ← here, found) refl
+
+-- another number keeps none
+pub kept_columns-same : (columns : List Column) (numbers : List ℕ) (index number : ℕ)
+    → index < length numbers → number ≡ get_or numbers index 0 → slice_get columns number ≡ None
+    → kept_columns columns (take (index + 1) numbers) ≡ kept_columns columns (take index numbers)
+kept_columns-same columns numbers index number within here none =
+    rw (kept_columns-take columns numbers index within, ← here, none) (append-nil _)

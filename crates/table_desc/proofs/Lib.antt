@@ -14,10 +14,6 @@ pub mod FilledLemmas
 pub mod SourceLemmas
 pub mod AcceptedLemmas
 pub mod TextLemmas
-pub mod FrontLemmas
 pub mod NameLemmas
-pub mod ColumnLemmas
-pub mod SelectionLemmas
-pub mod GrammarLemmas
 pub mod ServedLemmas
-pub mod DescribedLemmas
+pub mod DraftLemmas

@@ -1,7 +1,7 @@
 -- What was found by name: `IsPlace-found`, and the sources of a line.
-use Rattle.std.proofs.Common.{◌≡◌, ◌∙◌, ℕ, ◌<◌, ◌≤◌, List, Option, Some, None, Bool, true, false}
-use Rattle.std.proofs.Common.{◌⊎◌, length, get_or, refl, ap, arith, inl, inr, rules, tests}
-use Rattle.std.specs.Prelude.{position, slice_get, is_none, nat_lt, option_and_then}
+use Rattle.std.proofs.Common.{◌≡◌, ℕ, ◌<◌, ◌≤◌, List, Option, Some, None, Bool, true, false}
+use Rattle.std.proofs.Common.{◌⊎◌, length, get_or, refl, arith, inl, inr, rules, tests}
+use Rattle.std.specs.Prelude.{position, slice_get, is_none, nat_lt}
 use Rattle.std.specs.List.{position_or_len}
 use Rattle.std.specs.Str.{bytes_eq}
 use Rattle.std.proofs.lemmas.Bool.{ltb-true}
@@ -14,9 +14,7 @@ use Rattle.table_desc.specs.declared.table.Column.{Column}
 use Rattle.table_desc.specs.Descriptions.{DescOf}
 use Rattle.table_desc.specs.Tables.{TableOf}
 use Rattle.table_desc.specs.Sources.{table_width}
-use Rattle.table_desc.specs.Names.{find_table}
-use Rattle.table_desc.specs.Lookups.{columns_of, source_columns, source_width, table_columns}
-use Rattle.table_desc.specs.Lookups.{find_column}
+use Rattle.table_desc.specs.Lookups.{find_table, source_columns, source_width, table_columns}
 use Rattle.table_desc.specs.Declarations.{found}
 
 -- what is found is there

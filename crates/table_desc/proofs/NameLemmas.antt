@@ -5,7 +5,7 @@ use Rattle.std.specs.Str.{IsAscii}
 use Rattle.std.proofs.lemmas.Bool.Decides.{nat_tests}
 use Rattle.std.proofs.lemmas.Str.{IsUtf8-from_ascii}
 use Rattle.depot_cell.specs.ShortText.{IsShortText}
-use Rattle.table_desc.specs.Names.{is_name, is_name_byte}
+use Rattle.desc_lines.specs.Names.{is_name, is_name_byte}
 
 -- a byte of a name is ASCII
 is_name_byte-lt : (byte : ℕ) → is_name_byte byte ≡ true → byte < 128

@@ -1,17 +1,15 @@
 -- Names of which no two are alike: one more of them, and those of sources under prefixes.
-use Rattle.std.proofs.Common.{◌≡◌, ◌∙◌, ℕ, ◌++◌, List, [], ◌∷◌, Option, Some, None, Bool, true, false}
-use Rattle.std.proofs.Common.{suc, not, map, refl, ap, sym, length, arith}
-use Rattle.std.specs.Prelude.{All, ◌||◌, ◌&&◌, is_some, position, codes}
+use Rattle.std.proofs.Common.{◌≡◌, ◌∙◌, ℕ, ◌++◌, List, [], ◌∷◌, true, false}
+use Rattle.std.proofs.Common.{suc, not, refl, ap, arith}
+use Rattle.std.specs.Prelude.{All, ◌||◌, ◌&&◌}
 use Rattle.std.specs.Str.{bytes_eq}
 use Rattle.std.specs.List.{list_any}
-use Rattle.std.proofs.lemmas.List.{map-append}
 use Rattle.std.proofs.lemmas.List.Elements.{All-push}
 use Rattle.std.proofs.lemmas.List.Folds.{list_any-append}
 use Rattle.desc_lines.specs.Names.{is_name}
 use Rattle.table_desc.specs.Causes.{are_different}
 use Rattle.table_desc.specs.Accepted.{AreNames}
 use Rattle.table_desc.proofs.BoolLemmas.{or-none, or-false, and-both, not-true}
-use Rattle.table_desc.proofs.ListLemmas.{list_any-map}
 
 -- the parts of `are_different`
 different-parts : (word : List ℕ) (others : List (List ℕ)) → are_different (word ∷ others) ≡ true

@@ -1,9 +1,8 @@
 -- The parts of a view that a line declares: conditions, aggregates and pairs.
-use Rattle.std.proofs.Common.{◌≡◌, ◌∙◌, ℕ, ◌<◌, List, [], ◌∷◌, Option, Some, None, Bool, true, false}
-use Rattle.std.proofs.Common.{Result, Ok, Err, length, map, refl, ap, sym, subst}
-use Rattle.std.specs.Prelude.{All, filter_map, is_none, slice_get}
+use Rattle.std.proofs.Common.{◌≡◌, ℕ, List, [], ◌∷◌, Option, Some, None, false}
+use Rattle.std.proofs.Common.{Result, Ok, Err, length, map, refl, ap}
+use Rattle.std.specs.Prelude.{All, filter_map, is_none}
 use Rattle.std.specs.List.{list_any, AllByRecursion}
-use Rattle.std.specs.Str.{bytes_eq}
 use Rattle.std.specs.Result.{result_ok}
 use Rattle.std.proofs.lemmas.List.Elements.{All-cons, All-nil}
 use Rattle.depot_cell.specs.declared.cell.Cell.{Cell}
@@ -19,8 +18,6 @@ use Rattle.desc_lines.specs.Written.{WrittenAggOf, WrittenCondOf, WrittenPairOf}
 use Rattle.table_desc.specs.declared.table.Column.{Column}
 use Rattle.table_desc.specs.declared.view.Agg.{Agg}
 use Rattle.table_desc.specs.declared.view.Cond.{Cond}
-use Rattle.table_desc.specs.declared.view.Pair.{Pair}
-use Rattle.table_desc.specs.Lookups.{find_type}
 use Rattle.table_desc.specs.Causes.{has_odd_literal, have_two_types, is_odd_pair, is_text_sum}
 use Rattle.table_desc.specs.Causes.{lacks, lacks_side, lacks_some, sums_texts, type_over}
 use Rattle.table_desc.specs.Declarations.{column_number, declared_agg, declared_cond}

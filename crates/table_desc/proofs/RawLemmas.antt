@@ -1,7 +1,7 @@
 -- The columns of a raw table: their names, and the time column.
-use Rattle.std.proofs.Common.{◌≡◌, ◌∙◌, ℕ, ◌<◌, List, [], ◌∷◌, Option, Some, None, Bool, true, false}
-use Rattle.std.proofs.Common.{not, length, map, refl, ap, sym, arith, rules, tests}
-use Rattle.std.specs.Prelude.{All, is_none, nat_le, slice_get, ◌&&◌, ◌||◌}
+use Rattle.std.proofs.Common.{◌≡◌, ℕ, List, [], ◌∷◌, Option, Some, None, true, false}
+use Rattle.std.proofs.Common.{not, length, map, refl, ap, arith}
+use Rattle.std.specs.Prelude.{All, is_none, nat_le, ◌&&◌}
 use Rattle.std.specs.List.{list_all, list_any}
 use Rattle.std.specs.Str.{bytes_eq}
 use Rattle.std.proofs.lemmas.Bool.Decides.{nat_tests}

@@ -1,6 +1,6 @@
 -- The width and the sources of a table that a line declares.
-use Rattle.std.proofs.Common.{◌≡◌, ◌∙◌, ℕ, ◌<◌, ◌≤◌, List, [], ◌∷◌, Option, Some, None, Bool, true}
-use Rattle.std.proofs.Common.{false, length, refl, ap, sym, arith}
+use Rattle.std.proofs.Common.{◌≡◌, ℕ, List, [], ◌∷◌, Option, Some, None}
+use Rattle.std.proofs.Common.{false, length, arith}
 use Rattle.std.specs.Prelude.{All, unwrap_or, nat_le, ◌&&◌, ◌||◌}
 use Rattle.std.specs.List.{list_any}
 use Rattle.std.proofs.lemmas.Bool.Decides.{nat_tests}
@@ -15,11 +15,11 @@ use Rattle.table_desc.specs.Descriptions.{DescOf}
 use Rattle.table_desc.specs.Lookups.{source_width}
 use Rattle.table_desc.specs.Sources.{kind_sources}
 use Rattle.table_desc.specs.Ticks.{read_span, read_width}
-use Rattle.table_desc.specs.Causes.{has_bad_width, is_absent, is_odd_span, misfits, sources}
+use Rattle.table_desc.specs.Causes.{is_absent, is_odd_span, misfits, sources}
 use Rattle.table_desc.specs.Declarations.{declared_filling, declared_source, own_ticks}
 use Rattle.table_desc.specs.Accepted.{IsSource}
 use Rattle.table_desc.proofs.BoolLemmas.{and-both, not-false, or-none}
-use Rattle.table_desc.proofs.LookupLemmas.{IsEarlier, SpanFits-fitting, found-within}
+use Rattle.table_desc.proofs.LookupLemmas.{SpanFits-fitting, found-within}
 use Rattle.table_desc.proofs.LookupLemmas.{table_width-found}
 use Rattle.table_desc.proofs.FilledLemmas.{IsEarlier-there}
 

@@ -1,8 +1,8 @@
 -- The lines of a text, read from its front.
-use Rattle.std.proofs.Common.{◌≡◌, ◌∙◌, ℕ, ◌<◌, ◌≤◌, ◌+◌, ◌==◌, List, [], ◌∷◌, Option, Some, None}
-use Rattle.std.proofs.Common.{Bool, true, false, Result, Ok, Err, length, take, drop, refl, ap, sym}
-use Rattle.std.proofs.Common.{subst, arith, get_or}
-use Rattle.std.specs.Prelude.{position, nat_lt, All, if◌then◌else◌}
+use Rattle.std.proofs.Common.{◌≡◌, ◌∙◌, ℕ, ◌<◌, ◌≤◌, ◌+◌, ◌==◌, List, [], ◌∷◌, Some, None}
+use Rattle.std.proofs.Common.{Bool, true, false, Result, Ok, Err, length, take, drop, refl, ap}
+use Rattle.std.proofs.Common.{arith}
+use Rattle.std.specs.Prelude.{position, nat_lt, if◌then◌else◌}
 use Rattle.std.specs.List.{position_or_len, slice_split, before_first, after_first}
 use Rattle.std.specs.Io.BufRead.{strip_last}
 use Rattle.std.specs.Result.{IsErrAnd}
@@ -15,7 +15,7 @@ use Rattle.table_desc.specs.declared.reading.fault.DescCause.{DescCause}
 use Rattle.table_desc.specs.declared.reading.fault.DescFault.{DescFault}
 use Rattle.table_desc.specs.declared.reading.fault.DescFault.TheVariants.{At, Memory}
 use Rattle.table_desc.specs.Descriptions.{DescOf}
-use Rattle.table_desc.specs.Described.{FaultOf, Reads, then_lines, with_line, with_lines}
+use Rattle.table_desc.specs.Described.{Reads, then_lines, with_line, with_lines}
 
 -- a piece before others
 ended-step : (piece : List ℕ) (pieces : List (List ℕ)) → 0 < length pieces
@@ -33,8 +33,11 @@ lines_of-step text end found =
     ap ended (slice_split_first (λ byte. byte == 10) text 0 within)
     ∙ ended-step (before_first (λ byte. byte == 10) text)
     (slice_split (λ byte. byte == 10) (after_first (λ byte. byte == 10) text))
-    (omega (arith, length-slice_split (λ byte. byte == 10)
-    (after_first (λ byte. byte == 10) text)))
+    (omega (
+      arith,
+      length-slice_split (λ byte. byte == 10)
+          (after_first (λ byte. byte == 10) text),
+    ))
     ∙ ap (λ place. strip_last 13 (take place text) ∷ lines_of (drop (place + 1) text)) parts.1
 
 -- a text without LF is one line
@@ -42,8 +45,11 @@ pub lines_of-none : (text : List ℕ) → position (λ byte. byte == 10) text �
     → lines_of text ≡ text ∷ []
 lines_of-none text none =
     ap ended (slice_split_none (λ byte. byte == 10) text (λ place default within.
-    fails_before_first (λ byte. byte == 10) text place default (omega (arith, within,
-    past (nat_lt (position_or_len (λ byte. byte == 10) text) (length text)) refl none))))
+    fails_before_first (λ byte. byte == 10) text place default (omega (
+      arith,
+      within,
+      past (nat_lt (position_or_len (λ byte. byte == 10) text) (length text)) refl none,
+    ))))
   where
     past : (found : Bool)
         → nat_lt (position_or_len (λ byte. byte == 10) text) (length text) ≡ found
@@ -58,12 +64,12 @@ pub Reads-bad : (fault : DescFault) (number : ℕ) (desc : DescOf) (line : List 
     (others : List (List ℕ)) → Reads (Err fault) (with_lines number desc (line ∷ []))
     → Reads (Err fault) (with_lines number desc (line ∷ others))
 Reads-bad Memory number desc line others read = tt
-Reads-bad (At at cause) number desc line others read = by_line (with_line desc line) read
+Reads-bad (At bad) number desc line others read = by_line (with_line desc line) read
   where
     by_line : (found : Result DescOf DescCause)
-        → then_lines number found (λ desc. Ok desc) ≡ Err (record { line = at; cause = cause })
+        → then_lines number found (λ desc. Ok desc) ≡ Err bad
         → then_lines number found (λ desc. with_lines (number + 1) desc others)
-        ≡ Err (record { line = at; cause = cause })
+        ≡ Err bad
     by_line (Ok desc) read = absurd cc
     by_line (Err cause) read = read
 

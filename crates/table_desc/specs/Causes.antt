@@ -20,9 +20,8 @@ use Rattle.table_desc.specs.declared.reading.fault.DescCause.{DescCause}
 use Rattle.table_desc.specs.declared.reading.fault.DescCause.TheVariants as cause
 use Rattle.table_desc.specs.declared.table.Column.{Column}
 use Rattle.table_desc.specs.Descriptions.{DescOf}
-use Rattle.table_desc.specs.Names.{find_feed, find_table}
-use Rattle.table_desc.specs.Lookups.{find_column, find_type, read_type}
-use Rattle.table_desc.specs.Lookups.{source_columns, source_width}
+use Rattle.table_desc.specs.Lookups.{find_column, find_feed, find_table, find_type}
+use Rattle.table_desc.specs.Lookups.{read_type, source_columns, source_width}
 use Rattle.table_desc.specs.Ticks.{read_span, read_width}
 
 -- the sources of a table

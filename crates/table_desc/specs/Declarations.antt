@@ -1,7 +1,6 @@
 -- What a line declares, if nothing speaks against it. Where something does, numbers are 0.
 use Rattle.std.specs.Prelude.{ℕ, pos, List, [], ◌∷◌, ◌++◌, Option, Some, None, map, codes}
-use Rattle.std.specs.Prelude.{filter_map, option_map, position, slice_get, unwrap_or, length, All, ◌≡◌, ◌≤◌, true}
-use Rattle.std.specs.Str.{bytes_eq}
+use Rattle.std.specs.Prelude.{filter_map, option_map, slice_get, unwrap_or, length, All, ◌≡◌, ◌≤◌, true}
 use Rattle.std.specs.Result.{result_ok}
 use Rattle.depot_cell.specs.declared.cell.Cell.{Cell}
 use Rattle.depot_cell.specs.declared.cell.Ty.{Ty}
@@ -25,9 +24,8 @@ use Rattle.table_desc.specs.KindValues.{KindOf}
 use Rattle.table_desc.specs.Causes.{written_place}
 use Rattle.table_desc.specs.Descriptions.{DescOf}
 use Rattle.table_desc.specs.Tables.{TableOf}
-use Rattle.table_desc.specs.Names.{find_feed, find_table}
-use Rattle.table_desc.specs.Lookups.{find_column, find_type, read_type}
-use Rattle.table_desc.specs.Lookups.{source_columns}
+use Rattle.table_desc.specs.Lookups.{find_column, find_feed, find_table, find_type}
+use Rattle.table_desc.specs.Lookups.{read_type, source_columns}
 use Rattle.table_desc.specs.Ticks.{read_span, read_width}
 
 -- the number that was found

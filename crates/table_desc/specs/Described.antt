@@ -6,6 +6,7 @@ use Rattle.desc_lines.specs.Lines.{line_of}
 use Rattle.desc_lines.specs.Texts.{lines_of}
 use Rattle.desc_lines.specs.Words.{words, is_skipped}
 use Rattle.desc_lines.specs.Written.{WrittenLineOf}
+use Rattle.table_desc.specs.declared.reading.fault.BadLine.{BadLine}
 use Rattle.table_desc.specs.declared.reading.fault.DescCause.{DescCause}
 use Rattle.table_desc.specs.declared.reading.fault.DescCause.TheVariants as cause
 use Rattle.table_desc.specs.declared.reading.fault.DescFault.{DescFault}
@@ -31,19 +32,14 @@ with_line desc line =
     else if is_utf8 line then with_written desc (line_of (words line))
     else Err cause.BadLine
 
--- a bad line, by its number from 1, and the first cause that makes it bad
-pub record FaultOf : Type 0 where
-  pub line : ℕ
-  pub cause : DescCause
-
 -- what the lines after one declare, if that one is not bad
 abbrev pub then_lines : (number : ℕ) → Result DescOf DescCause
-    → (DescOf → Result DescOf FaultOf) → Result DescOf FaultOf
+    → (DescOf → Result DescOf BadLine) → Result DescOf BadLine
 then_lines number (Ok desc) lines = lines desc
 then_lines number (Err cause) lines = Err (record { line = number; cause = cause })
 
 -- a description with what lines declare, of which the first has this number
-abbrev pub with_lines : (number : ℕ) → DescOf → List (List ℕ) → Result DescOf FaultOf
+abbrev pub with_lines : (number : ℕ) → DescOf → List (List ℕ) → Result DescOf BadLine
 with_lines number desc [] = Ok desc
 with_lines number desc (line ∷ others) =
     then_lines number (with_line desc line) (λ desc. with_lines (number + 1) desc others)
@@ -53,11 +49,11 @@ abbrev pub no_desc : DescOf
 no_desc = record { feeds = []; tables = [] }
 
 -- what a text declares, or its first bad line
-abbrev pub described : List ℕ → Result DescOf FaultOf
+abbrev pub described : List ℕ → Result DescOf BadLine
 described bytes = with_lines 1 no_desc (lines_of bytes)
 
 -- an answer is what a text declares or its first bad line, unless there was no memory
-abbrev pub Reads : Result DescOf DescFault → Result DescOf FaultOf → Type 0
+abbrev pub Reads : Result DescOf DescFault → Result DescOf BadLine → Type 0
 Reads (Ok desc) read = read ≡ Ok desc
-Reads (Err (At line cause)) read = read ≡ Err (record { line = line; cause = cause })
+Reads (Err (At bad)) read = read ≡ Err bad
 Reads (Err Memory) read = Unit {0}

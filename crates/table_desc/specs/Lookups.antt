@@ -5,9 +5,17 @@ use Rattle.std.specs.Str.{bytes_eq}
 use Rattle.depot_cell.specs.declared.cell.Ty.{Ty}
 use Rattle.depot_cell.specs.declared.cell.Ty.TheVariants as ty
 use Rattle.table_desc.specs.declared.table.Column.{Column}
-use Rattle.table_desc.specs.Names.{find_table}
+use Rattle.table_desc.specs.declared.table.Feed.{Feed}
 use Rattle.table_desc.specs.Descriptions.{DescOf}
 use Rattle.table_desc.specs.Tables.{TableOf}
+
+-- the number of the feed with this name
+abbrev pub find_feed : DescOf → List ℕ → Option ℕ
+find_feed desc name = position (λ (feed : Feed). bytes_eq feed.name name) desc.feeds
+
+-- the number of the table with this name
+abbrev pub find_table : DescOf → List ℕ → Option ℕ
+find_table desc name = position (λ (table : TableOf). bytes_eq table.name name) desc.tables
 
 -- the number of the column with this name
 abbrev pub find_column : List Column → List ℕ → Option ℕ

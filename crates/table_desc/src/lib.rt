@@ -6,22 +6,22 @@
 //! [`END`].
 #![tactic(auto)]
 
+mod accepted;
 mod delivery;
-mod grammar;
-pub mod lookups;
+mod field;
+mod lookups;
 mod reading;
-mod served;
 mod table;
 mod view;
 
+pub use accepted::AcceptedDesc;
 pub use delivery::{DRow, Delivery};
 pub use desc_lines::Fun;
-pub use grammar::{
-    Draft, begins_comment, described_is_served, field_cell, find_feed, find_table, is_go, is_name,
-    is_skipped, is_word, words_of,
-};
+pub use field::field_cell;
+pub use lookups::{find_feed, find_table};
 pub use partition_map::{END, Span, Width};
-pub use reading::{DescCause, DescFault, described_is_accepted, read_desc};
-pub use served::ServedDesc;
+pub use reading::{
+    BadLine, DescCause, DescFault, Draft, described_is_accepted, read_desc, texts_are_drafted,
+};
 pub use table::{Column, Desc, Feed, Key, Table, compare_keys};
 pub use view::{Agg, Cond, Kind, Pair, Src};

@@ -3,9 +3,8 @@
 ghost use Rattle.std.specs.Prelude.{◌≡◌, ◌<◌, ◌≤◌, length, position, IfOk, IfSome};
 ghost use Rattle.std.specs.Str.{bytes_eq};
 ghost use Rattle.table_desc.specs.Declarations.{kept_columns};
-ghost use Rattle.table_desc.specs.Lookups.{find_column, find_type, read_type, source_columns};
-ghost use Rattle.table_desc.specs.Lookups.{source_width};
-ghost use Rattle.table_desc.specs.Names.{find_feed, find_table};
+ghost use Rattle.table_desc.specs.Lookups.{find_column, find_feed, find_table, find_type};
+ghost use Rattle.table_desc.specs.Lookups.{read_type, source_columns, source_width};
 
 use crate::{Column, Desc, Feed, Table, Width};
 use depot_cell::{Memory, Str, Ty};

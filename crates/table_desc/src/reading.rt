@@ -4,6 +4,7 @@ mod absent;
 mod causes;
 mod declaring;
 mod describing;
+mod draft;
 mod fault;
 mod fitting;
 mod named;
@@ -14,5 +15,6 @@ mod utf8;
 mod written;
 
 pub use describing::{described_is_accepted, read_desc};
-pub use fault::{DescCause, DescFault};
+pub use draft::{Draft, texts_are_drafted};
+pub use fault::{BadLine, DescCause, DescFault};
 pub use ticks::read_width;

@@ -7,7 +7,7 @@ ghost use Rattle.desc_lines.specs.Written.{WrittenAggOf, WrittenColumnOf, Writte
 ghost use Rattle.desc_lines.specs.WrittenKinds.{written_kind};
 ghost use Rattle.table_desc.specs.Causes.{is_absent, lacks, lacks_column, lacks_feed, lacks_side};
 ghost use Rattle.table_desc.specs.Causes.{lacks_some, lacks_source};
-ghost use Rattle.table_desc.specs.Names.{find_feed};
+ghost use Rattle.table_desc.specs.Lookups.{find_feed};
 
 use crate::lookups::{place_of_column, place_of_feed, place_of_table, source_columns};
 use crate::reading::written::written_place;

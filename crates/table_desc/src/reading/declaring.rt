@@ -13,7 +13,7 @@ ghost use Rattle.table_desc.specs.Declarations.{column_number, declared_filling,
 ghost use Rattle.table_desc.specs.Declarations.{declared_group, declared_join, declared_table};
 ghost use Rattle.table_desc.specs.Declarations.{found, with_declared, with_feed};
 ghost use Rattle.table_desc.specs.Declarations.{with_table, IsReady};
-ghost use Rattle.table_desc.specs.Names.{find_feed};
+ghost use Rattle.table_desc.specs.Lookups.{find_feed};
 ghost use Rattle.table_desc.specs.Ticks.{read_width};
 
 use crate::lookups::{find_feed, kept_columns, source_columns};

@@ -11,7 +11,7 @@ ghost use Rattle.table_desc.specs.Described.{with_written};
 use crate::Desc;
 use crate::reading::causes::cause_of;
 use crate::reading::declaring::with_declared;
-use crate::reading::fault::{DescCause, DescFault};
+use crate::reading::fault::{BadLine, DescCause, DescFault};
 use crate::reading::utf8::is_utf8;
 use depot_cell::Memory;
 use desc_lines::{WrittenLine, is_skipped, read_line, words_of};
@@ -35,8 +35,10 @@ pub fn read_desc(alloc: Global, bytes: &[u8]) -> Result<Desc, DescFault>
     with_numbered(alloc, desc, number, rest)
 }
 
-fn no_desc(alloc: Global) -> Desc
+/// The description that declares nothing.
+pub(crate) fn no_desc(alloc: Global) -> Desc
     ensures exact { result ≡ no_desc }
+    ensures accepted { IsAccepted result }
 {
     Desc {
         feeds: Vec::new(alloc),
@@ -62,17 +64,22 @@ fn without_cr(line: &[u8]) -> &[u8]
 }
 
 /// A description with what the line with this number declares.
-fn with_numbered(alloc: Global, desc: Desc, number: u64, line: &[u8]) -> Result<Desc, DescFault>
+pub(crate) fn with_numbered(
+    alloc: Global,
+    desc: Desc,
+    number: u64,
+    line: &[u8],
+) -> Result<Desc, DescFault>
     requires accepted { IsAccepted desc }
     ensures exact { Reads result (with_lines number desc (line.now ∷ [])) }
     ensures accepted { IfOk result IsAccepted }
 {
     match with_line(alloc, desc, line)? {
         Ok(desc) => Ok(desc),
-        Err(cause) => Err(DescFault::At {
+        Err(cause) => Err(DescFault::At(BadLine {
             line: number,
             cause,
-        }),
+        })),
     }
 }
 

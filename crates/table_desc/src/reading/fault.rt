@@ -50,11 +50,18 @@ impl DescCause {
     }
 }
 
+/// A bad line of a description: its number, from 1, and the first cause that makes it bad.
+#[derive(Clone, Copy, Debug, PartialEq, Eq, Drop)]
+pub struct BadLine {
+    pub line: u64,
+    pub cause: DescCause,
+}
+
 /// Why there is no description of a text.
 #[derive(Clone, Copy, Debug, PartialEq, Eq, Drop)]
 pub enum DescFault {
-    /// The first bad line, by its number from 1, and the first cause that makes it bad.
-    At { line: u64, cause: DescCause },
+    /// This line is the first bad one.
+    At(BadLine),
     Memory,
 }
 

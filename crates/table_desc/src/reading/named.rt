@@ -8,7 +8,7 @@ ghost use Rattle.desc_lines.specs.Written.{WrittenAggOf, WrittenColumnOf};
 ghost use Rattle.desc_lines.specs.WrittenKinds.{written_kind};
 ghost use Rattle.table_desc.specs.Causes.{are_different, gives_bad_name, has_bad_name};
 ghost use Rattle.table_desc.specs.Causes.{written_names};
-ghost use Rattle.table_desc.specs.Names.{find_table};
+ghost use Rattle.table_desc.specs.Lookups.{find_table};
 
 use crate::Desc;
 use crate::lookups::place_of_table;

@@ -17,11 +17,10 @@ ghost use Rattle.table_desc.specs.Declarations.{value_of};
 ghost use Rattle.table_desc.specs.declared.table.Column.{Column as ColumnOf};
 ghost use Rattle.table_desc.specs.Declarations.{LeavesRoom};
 
-use crate::grammar::field_cell;
 use crate::lookups::{find_column, find_table, find_type, kept_columns, read_type};
 use crate::reading::ticks::read_span;
 use crate::reading::written::written_place;
-use crate::{Agg, Column, Cond, Desc, Fun, Pair, Span, Src};
+use crate::{Agg, Column, Cond, Desc, Fun, Pair, Span, Src, field_cell};
 use depot_cell::{Cell, Memory, Str, Ty};
 use desc_lines::{WrittenAgg, WrittenColumn, WrittenCond, WrittenPair, WrittenSource, is_word};
 use std::alloc::Global;

@@ -1,6 +1,6 @@
 use Rattle.std.proofs.Common.{refl, sym}
 use Rattle.std.proofs.lemmas.Option.{slice_get_past, slice_get_read}
-use Rattle.table_desc.proofs.ColumnLemmas.{kept_columns-push, kept_columns-same}
+use Rattle.table_desc.proofs.KeptLemmas.{kept_columns-push, kept_columns-same}
 use Rattle.table_desc.proofs.lookups.kept_columns.Goals.{in-Some+in_ok-copy_column+in_ok-push}
 use Rattle.table_desc.proofs.lookups.kept_columns.Goals.{in_default}
 use Rattle.table_desc.proofs.lookups.kept_columns.Goals as goal

@@ -28,8 +28,12 @@ loop-end-preserved c =
           c.in_ok-desc.ensures.exact) ∙ whole);
       accepted = c.in_ok-desc.ensures.accepted;
       within = rw (take_rest c.loop-end.rest.now (c.in-Some.end + 1))
-          (omega (arith, length-drop (c.in-Some.end + 1) c.loop-end.rest.now,
-          c.in-Some.ensures.within, c.loop-end.invariant.within));
+          (omega (
+            arith,
+            length-drop (c.in-Some.end + 1) c.loop-end.rest.now,
+            c.in-Some.ensures.within,
+            c.loop-end.invariant.within,
+          ));
     }
 
 pub returns-clause-exact : goal.returns-clause-exact

@@ -1,5 +1,4 @@
-use Rattle.std.proofs.Common.{◌∙◌, sym, ap, ◌++◌, [], arith}
-use Rattle.std.specs.List.{cons_option}
+use Rattle.std.proofs.Common.{sym}
 use Rattle.table_desc.specs.Declarations.{declared_cond}
 use Rattle.table_desc.proofs.ListLemmas.{filter_map-take}
 use Rattle.table_desc.proofs.reading.parts.declared_conds.Goals as goal
