@@ -11,8 +11,8 @@ use Rattle.depot_cell.specs.declared.cell.Op.TheVariants.{Lt, Gt}
 use Rattle.depot_cell.specs.Cells.{cell_cmp, passes, same_cells}
 use Rattle.table_desc.specs.declared.view.Agg.{Agg}
 use Rattle.table_desc.specs.declared.view.Cond.{Cond}
-use Rattle.table_desc.specs.declared.view.Fun.{Fun}
-use Rattle.table_desc.specs.declared.view.Fun.TheVariants.{Sum, Count, Least, Greatest}
+use Rattle.desc_lines.specs.declared.fun.Fun.{Fun}
+use Rattle.desc_lines.specs.declared.fun.Fun.TheVariants.{Sum, Count, Least, Greatest}
 use Rattle.table_desc.specs.declared.view.Pair.{Pair}
 use Rattle.table_desc.specs.KindValues.{KindOf, Raw, Filter, Group, Join}
 
