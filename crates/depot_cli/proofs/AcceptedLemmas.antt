@@ -2,20 +2,24 @@
 -- description, so each step does, and so does the journal.
 use Rattle.std.proofs.Common.{◌≡◌, ℕ, zero, suc, ◌<◌, ◌^◌, List, [], ◌∷◌, length}
 use Rattle.std.proofs.Common.{Bool, true, false, refl, sym, ap, ◌∙◌, subst, inl, inr, arith}
-use Rattle.std.specs.Prelude.{Option, Some, None, All, ⊤, if◌then◌else◌, codes, ◌&&◌}
+use Rattle.std.specs.Prelude.{Option, Some, None, Result, Ok, Err, All, ⊤, if◌then◌else◌, codes}
+use Rattle.std.specs.Prelude.{◌&&◌}
 use Rattle.std.specs.Str.{bytes_eq}
 use Rattle.std.proofs.lemmas.Bool.{cases_Bool, ltb-true}
 use Rattle.std.proofs.lemmas.List.Elements.{All-cons, All-head, All-nil, All-tail}
 use Rattle.std.proofs.lemmas.List.Quantifiers.{position-Some}
 use Rattle.std.proofs.lemmas.Option.{cond_some, option_and_then_some}
 use Rattle.depot_cell.specs.Numbers.{number_of}
+use Rattle.desc_lines.specs.Words.{begins_comment, is_empty, words}
 use Rattle.table_desc.specs.declared.table.Feed.{Feed}
 use Rattle.table_desc.specs.declared.delivery.DRow.{DRow}
+use Rattle.table_desc.specs.declared.reading.fault.BadLine.{BadLine}
 use Rattle.table_desc.specs.Descriptions.{DescOf}
-use Rattle.table_desc.specs.Names.{find_feed}
-use Rattle.table_desc.specs.Words.{begins_comment, is_empty, words}
-use Rattle.table_desc.specs.Grammar.{described}
-use Rattle.table_desc.proofs.DescribedLemmas.{described_is_served}
+use Rattle.table_desc.specs.Accepted.{IsAccepted as IsAcceptedDesc}
+use Rattle.table_desc.specs.Drafts.{drafted}
+use Rattle.table_desc.specs.Lookups.{find_feed}
+use Rattle.table_desc.proofs.DraftLemmas.{drafted-accepted}
+use Rattle.table_desc.proofs.ServedLemmas.{accepted-served}
 use Rattle.view_meaning.specs.declared.journal.Entry.{Entry}
 use Rattle.view_meaning.specs.declared.journal.Entry.TheVariants as entry
 use Rattle.view_meaning.specs.declared.request.Item.{Item}
@@ -238,13 +242,14 @@ FitsJournal-serial desc journal (item ∷ items) fits each =
     (FitsJournal-journal_after desc journal item fits (All-head (FitsWork desc) item items each))
     (All-tail (FitsWork desc) item items each)
 
--- a session over a served description is accepted
-IsAccepted-session : (lines : List (List ℕ)) (taken : ℕ) (rest : List ℕ)
-    → IsAccepted (described lines).desc (session (described lines).desc taken rest)
-IsAccepted-session lines taken rest = record {
-  served = described_is_served lines;
-  fits = FitsJournal-serial (described lines).desc [] _ (All-nil _)
-      (FitsWork-session_from (described lines).desc taken (suc (length rest)) 0 rest);
+-- a session over an accepted description is accepted
+IsAccepted-session : (desc : DescOf) (taken : ℕ) (rest : List ℕ) → IsAcceptedDesc desc
+    → IsAccepted desc (session desc taken rest)
+IsAccepted-session desc taken rest accepted = record {
+  accepted = accepted;
+  served = accepted-served desc accepted;
+  fits = FitsJournal-serial desc [] _ (All-nil _)
+      (FitsWork-session_from desc taken (suc (length rest)) 0 rest);
 }
 
 -- of two scripts that are one the same is accepted
@@ -258,21 +263,18 @@ IsAccepted-same desc other session_ other_session same accepted =
     subst P is_desc (subst (IsAccepted desc) is_session accepted)
 
 -- a script that serves is accepted, at the end of its description
-IsAccepted-script_at : (lines : List (List ℕ)) (end : OpeningEnd) (bad : Option ℕ) (desc : DescOf)
+IsAccepted-script_at : (read : Result DescOf BadLine) (end : OpeningEnd) (desc : DescOf)
     (session_ : Session)
-    → (described lines).bad ≡ bad
-    → script_at (described lines) end ≡ Serving desc session_ → IsAccepted desc session_
-IsAccepted-script_at lines (Broken cause place rest) bad desc session_ is_bad serves = absurd cc
-IsAccepted-script_at lines (Go taken rest) (Some line) desc session_ is_bad serves =
-    let same = ap (λ (bad : Option ℕ). script_after (described lines) taken rest bad) (sym is_bad)
-    ∙ serves in
-    absurd cc
-IsAccepted-script_at lines (Go taken rest) None desc session_ is_bad serves =
-    IsAccepted-same (described lines).desc desc _ session_
-    (ap (λ (bad : Option ℕ). script_after (described lines) taken rest bad) (sym is_bad) ∙ serves)
-    (IsAccepted-session lines taken rest)
+    → ((made : DescOf) → read ≡ Ok made → IsAcceptedDesc made)
+    → script_at read end ≡ Serving desc session_ → IsAccepted desc session_
+IsAccepted-script_at read (Broken cause place rest) desc session_ accepted serves = absurd cc
+IsAccepted-script_at (Err bad) (Go taken rest) desc session_ accepted serves = absurd cc
+IsAccepted-script_at (Ok made) (Go taken rest) desc session_ accepted serves =
+    IsAccepted-same made desc _ session_ serves
+    (IsAccepted-session made taken rest (accepted made refl))
 
 -- a reading that serves is accepted
 pub IsAccepted-reading : HasAcceptedReadings
 IsAccepted-reading input desc session_ serves =
-    IsAccepted-script_at (opening input).lines (opening input).end _ desc session_ refl serves
+    IsAccepted-script_at (drafted (opening input).lines).read (opening input).end desc session_
+    (drafted-accepted (opening input).lines) serves

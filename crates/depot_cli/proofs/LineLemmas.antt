@@ -7,7 +7,7 @@ use Rattle.std.specs.Io.BufRead.{first_line}
 use Rattle.std.proofs.lemmas.Bool.{ltb-false}
 use Rattle.depot_io.specs.Lines.{LIMIT, Takes, line_take, span}
 use Rattle.depot_cli.specs.declared.run.status.InputEnd.TheVariants as why
-use Rattle.table_desc.specs.Words.{is_empty}
+use Rattle.desc_lines.specs.Words.{is_empty}
 use Rattle.table_desc.specs.Descriptions.{DescOf}
 use Rattle.depot_cli.specs.declared.script.order.Head.{Head}
 use Rattle.depot_cli.specs.declared.script.order.Order.{Order}

@@ -1,15 +1,13 @@
--- How far a description was read: what its lines so far describe, and that what is left goes on
+-- How far a description was read: what its lines so far declare, and that what is left goes on
 -- to the opening of the whole input.
 use Rattle.std.proofs.Common.{◌≡◌, ℕ, suc, zero, ◌+◌, ◌≤◌, List, [], ◌∷◌, ◌++◌, length, Bool, true}
 use Rattle.std.proofs.Common.{false, refl, sym, ap, ◌∙◌, arith, append_assoc, append-nil, subst}
 use Rattle.std.specs.Prelude.{IfSome, Option, Some, None, Ok, Err}
 use Rattle.std.proofs.lemmas.List.Sums.{fold-append}
 use Rattle.depot_io.specs.Lines.{line_take}
-use Rattle.std.specs.Prelude.{is_some, if◌then◌else◌, ◌||◌}
-use Rattle.table_desc.specs.Descriptions.{DescOf}
-use Rattle.table_desc.specs.Words.{words, is_skipped}
-use Rattle.table_desc.specs.Grammar.{Described, described, with_line, with_declared, declared_by}
-use Rattle.table_desc.specs.Grammar.{nothing_described, is_go}
+use Rattle.std.specs.Prelude.{if◌then◌else◌}
+use Rattle.desc_lines.specs.Words.{is_go, words}
+use Rattle.table_desc.specs.Drafts.{DraftOf, drafted, no_lines, with_more}
 use Rattle.depot_cli.specs.declared.script.ScriptFault.{ScriptFault}
 use Rattle.depot_cli.specs.declared.script.ScriptFault.TheVariants.{Input, ReadFault, Memory}
 use Rattle.depot_cli.specs.Reading.{NextLine, NoLine, Unreadable, Line, line_due, next_line}
@@ -23,26 +21,26 @@ use Rattle.depot_cli.proofs.LineLemmas.{IsLeftOf-le, known_line, next_line-short
 abbrev pub after_lines : List (List ℕ) → Opening → Opening
 after_lines lines opening = record opening { lines = lines ++ opening.lines }
 
--- lines were read and describe this; what is left goes on to the whole opening
-pub record HasOpened (whole : Opening) (before : Described) (taken : ℕ)
+-- lines were read and declare this; what is left goes on to the whole opening
+pub record HasOpened (whole : Opening) (before : DraftOf) (taken : ℕ)
     (left : Option (List ℕ)) : Type 0 where
   pub rest : List ℕ
   pub lines : List (List ℕ)
   pub turns : ℕ
   pub is_left : left ≡ Some rest
   pub enough : length rest ≤ turns
-  pub describes : before ≡ described lines
+  pub declares : before ≡ drafted lines
   pub goes_on : after_lines lines (opening_from (suc turns) taken rest) ≡ whole
 
 -- nothing was read
-pub HasOpened-empty : (bytes : List ℕ) → HasOpened (opening bytes) nothing_described 0 (Some bytes)
+pub HasOpened-empty : (bytes : List ℕ) → HasOpened (opening bytes) no_lines 0 (Some bytes)
 HasOpened-empty bytes = record {
   rest = bytes;
   lines = [];
   turns = length bytes;
   is_left = refl;
   enough = omega arith;
-  describes = refl;
+  declares = refl;
   goes_on = refl;
 }
 
@@ -86,15 +84,15 @@ goes_on-line whole lines turns taken taken_now before line rest count next goes 
     (sym (opening_at-line more taken before line rest goes))
     ∙ opening_next whole lines (suc turns) taken before (Line line rest) next goes_on
 
--- the lines read describe one line more
-describes-line : (lines : List (List ℕ)) (before : Described) (line : List ℕ)
-    → before ≡ described lines → with_line before line ≡ described (lines ++ line ∷ [])
-describes-line lines before line describes =
-    ap (λ (before : Described). with_line before line) describes
-    ∙ sym (fold-append with_line nothing_described lines (line ∷ []))
+-- the lines read declare one line more
+declares-line : (lines : List (List ℕ)) (before : DraftOf) (line : List ℕ)
+    → before ≡ drafted lines → with_more before line ≡ drafted (lines ++ line ∷ [])
+declares-line lines before line declares =
+    ap (λ (before : DraftOf). with_more before line) declares
+    ∙ sym (fold-append with_more no_lines lines (line ∷ []))
 
 -- a line that does not end the description is added to it
-pub HasOpened-line : (whole : Opening) (before : Described) (taken taken_now place : ℕ)
+pub HasOpened-line : (whole : Opening) (before : DraftOf) (taken taken_now place : ℕ)
     (line : List ℕ) (there : Bool) (left left_now : Option (List ℕ))
     → HasOpened whole before taken left
     → there ≡ true
@@ -102,7 +100,7 @@ pub HasOpened-line : (whole : Opening) (before : Described) (taken taken_now pla
     IsNextLine (next_line taken bytes) (line_due bytes) place line left_now (Ok there))
     → IfSome left (λ bytes. taken_now ≡ taken + line_take bytes)
     → is_go (words line) ≡ false
-    → HasOpened whole (with_line before line) taken_now left_now
+    → HasOpened whole (with_more before line) taken_now left_now
 HasOpened-line whole before taken taken_now place line there left left_now opened is_there answer
     counted goes =
     let answered = known_line taken place line left_now left opened.rest there
@@ -115,7 +113,7 @@ HasOpened-line whole before taken taken_now place line there left left_now opene
         → length opened.rest ≤ turns
         → next_line taken opened.rest ≡ Line line rest → left_now ≡ Some rest
         → after_lines opened.lines (opening_from (suc turns) taken opened.rest) ≡ whole
-        → HasOpened whole (with_line before line) taken_now left_now
+        → HasOpened whole (with_more before line) taken_now left_now
     after zero rest count enough next is_left goes_on =
         absurd (omega (arith, (next_line-shorter taken opened.rest line rest next).0))
     after (suc turns) rest count enough next is_left goes_on = record {
@@ -124,7 +122,7 @@ HasOpened-line whole before taken taken_now place line there left left_now opene
       turns = turns;
       is_left = is_left;
       enough = omega (arith, (next_line-shorter taken opened.rest line rest next).0);
-      describes = describes-line opened.lines before line opened.describes;
+      declares = declares-line opened.lines before line opened.declares;
       goes_on = goes_on-line whole opened.lines turns taken taken_now opened.rest line rest count
           next goes goes_on;
     }
@@ -197,7 +195,7 @@ opening_fault whole turns taken taken_now place rest line lines left_now Memory 
     answer = absurd answer
 
 -- a fault at the next line
-pub HasOpened-fault : (whole : Opening) (before : Described) (taken taken_now place : ℕ)
+pub HasOpened-fault : (whole : Opening) (before : DraftOf) (taken taken_now place : ℕ)
     (line : List ℕ) (left left_now : Option (List ℕ)) (fault : ScriptFault)
     → HasOpened whole before taken left
     → place ≡ taken
@@ -211,26 +209,12 @@ HasOpened-fault whole before taken taken_now place line left left_now fault open
     opened.is_left answer)
 
 -- nothing was read of what a source has left
-pub HasOpened-start : (left : Option (List ℕ)) (before : Described) → before ≡ nothing_described
+pub HasOpened-start : (left : Option (List ℕ)) (before : DraftOf) → before ≡ no_lines
     → IfSome left (λ bytes. HasOpened (opening bytes) before 0 left)
 HasOpened-start None before is_nothing = tt
 HasOpened-start (Some bytes) before is_nothing =
-    subst (λ (before : Described). HasOpened (opening bytes) before 0 (Some bytes))
+    subst (λ (before : DraftOf). HasOpened (opening bytes) before 0 (Some bytes))
     (sym is_nothing) (HasOpened-empty bytes)
-
--- a line is counted, whatever it says
-pub lines-with_line : (before : Described) (line : List ℕ)
-    → (with_line before line).lines ≡ before.lines + 1
-lines-with_line before line =
-    counted (is_some before.bad || is_skipped (words line)) (declared_by before.desc (words line))
-  where
-    counted : (passed : Bool) (declared : Option DescOf)
-        → (if passed then record before { lines = before.lines + 1 }
-        else with_declared before declared).lines
-        ≡ before.lines + 1
-    counted true declared = refl
-    counted false None = refl
-    counted false (Some desc) = refl
 
 -- the opening at its `go` line
 opening_at-go : (more : List ℕ → Opening) (taken : ℕ) (bytes line rest : List ℕ)
@@ -239,8 +223,8 @@ opening_at-go : (more : List ℕ → Opening) (taken : ℕ) (bytes line rest : L
     ≡ record { lines = []; end = Go (taken + line_take bytes) rest }
 opening_at-go more taken bytes line rest goes = rw goes refl
 
--- the `go` line ends the opening, and what it describes is what was read before
-pub HasOpened-go : (whole : Opening) (before : Described) (taken taken_now place : ℕ)
+-- the `go` line ends the opening, and what it declares is what was read before
+pub HasOpened-go : (whole : Opening) (before : DraftOf) (taken taken_now place : ℕ)
     (line : List ℕ) (there : Bool) (left left_now : Option (List ℕ))
     → HasOpened whole before taken left
     → there ≡ true
@@ -265,7 +249,7 @@ HasOpened-go whole before taken taken_now place line there left left_now opened 
     ∙ opening_next whole opened.lines opened.turns taken opened.rest (Line line answered.0)
     answered.1 opened.goes_on in (
       answered.0,
-      opened.describes ∙ ap (λ (lines : List (List ℕ)). described lines)
+      opened.declares ∙ ap (λ (lines : List (List ℕ)). drafted lines)
           (sym (append-nil opened.lines) ∙ ap (λ (opening : Opening). opening.lines) ended),
       sym (ap (λ (opening : Opening). opening.end) ended)
           ∙ ap (λ (taken : ℕ). Go taken answered.0) (sym count),

@@ -1,14 +1,15 @@
 -- The run of an input, by its description and the session after it.
 use Rattle.std.proofs.Common.{◌≡◌, ℕ, List, length, refl, sym, ap, ◌∙◌, subst, IfSome}
-use Rattle.std.specs.Prelude.{Option, Some, None, Ok, Err}
+use Rattle.std.specs.Prelude.{Option, Some, None, Result, Ok, Err}
 use Rattle.std.proofs.KnownBytes.{Appends-nil}
 use Rattle.depot_cli.specs.declared.script.ScriptFault.{ScriptFault}
 use Rattle.depot_cli.specs.declared.script.ScriptFault.TheVariants.{Input, ReadFault, Memory}
 use Rattle.depot_cli.specs.declared.run.status.Status.{Status}
 use Rattle.depot_cli.specs.declared.run.status.Status.TheVariants as status
-use Rattle.depot_cli.specs.declared.run.status.DescCause.TheVariants as cause
+use Rattle.table_desc.specs.declared.reading.fault.BadLine.{BadLine}
 use Rattle.table_desc.specs.Descriptions.{DescOf}
-use Rattle.table_desc.specs.Grammar.{Described, described}
+use Rattle.table_desc.specs.Drafts.{DraftOf, drafted, read_of}
+use Rattle.table_desc.specs.declared.accepted.AcceptedDesc.{AcceptedDesc}
 use Rattle.depot_cli.specs.Reading.{OpeningEnd, Go, Broken, Script, Unopened, Misdescribed, Serving}
 use Rattle.depot_cli.specs.Reading.{opening, reading, script_at, script_after, session}
 use Rattle.depot_cli.specs.ScriptCalls.{IsBeforeGo, IsLeftOf, IsOpening, status_of_fault}
@@ -16,55 +17,56 @@ use Rattle.depot_cli.specs.Runs.{GainsFrontOf, GainsTakenOf, IsRun}
 use Rattle.depot_cli.proofs.KnownLemmas.{IfSome-each}
 use Rattle.depot_cli.proofs.EndLemmas.{GainsFront-start, GainsTaken-start}
 
--- an accepted description is followed by its session
-reading-opened : (input : List ℕ) (before : Described) (taken : ℕ) (rest : List ℕ)
-    → before ≡ described (opening input).lines → (opening input).end ≡ Go taken rest
-    → before.bad ≡ None
-    → reading input ≡ Serving before.desc (session before.desc taken rest)
-reading-opened input before taken rest describes ends accepted =
-    ap (λ (before : Described). script_at before (opening input).end) (sym describes)
-    ∙ ap (λ (end : OpeningEnd). script_at before end) ends
-    ∙ ap (λ (bad : Option ℕ). script_after before taken rest bad) accepted
+-- the script after the lines of a description
+reading-opened : (input : List ℕ) (draft : DraftOf) (read : Result DescOf BadLine) (taken : ℕ)
+    (rest : List ℕ)
+    → draft ≡ drafted (opening input).lines → (opening input).end ≡ Go taken rest
+    → draft.read ≡ read
+    → reading input ≡ script_after taken rest read
+reading-opened input draft read taken rest declares ends is_read =
+    ap (λ (draft : DraftOf). script_at draft.read (opening input).end) (sym declares)
+    ∙ ap (λ (end : OpeningEnd). script_at draft.read end) ends
+    ∙ ap (script_after taken rest) is_read
 
 -- the run of a session after an accepted description is the run of the input
-pub IsRun-opened : (input : List ℕ) (before : Described) (desc : DescOf) (taken : ℕ)
+pub IsRun-opened : (input : List ℕ) (draft : DraftOf) (desc : DescOf) (taken : ℕ)
     (left : Option (List ℕ)) (got_before got_now left_now : Option (List ℕ)) (room : Option ℕ)
     (ended : Status)
-    → IsOpening (opening input) taken left (Ok before) → before.bad ≡ None → desc ≡ before.desc
+    → IsOpening (opening input) taken left (Ok draft) → draft.read ≡ Ok desc
     → IfSome left (λ rest.
     IsRun (Serving desc (session desc taken rest)) got_before got_now left_now room ended)
     → IsRun (reading input) got_before got_now left_now room ended
-IsRun-opened input before desc taken left got_before got_now left_now room ended opened accepted
-    same served =
+IsRun-opened input draft desc taken left got_before got_now left_now room ended opened is_read
+    served =
     let P : Option (List ℕ) → Type 0 = λ left. IfSome left (λ rest.
     IsRun (Serving desc (session desc taken rest)) got_before got_now left_now room ended) in
     subst (λ (script : Script). IsRun script got_before got_now left_now room ended)
-    (ap (λ (desc : DescOf). Serving desc (session desc taken opened.0)) same
-    ∙ sym (reading-opened input before taken opened.0 opened.1 opened.2 accepted))
+    (sym (reading-opened input draft (Ok desc) taken opened.0 opened.1 opened.2 is_read))
     (subst P opened.3 served)
 
 -- nothing was put, whatever the reading is
 GainsFrontOf-start : (script : Script) (got : Option (List ℕ)) → GainsFrontOf script got got
 GainsFrontOf-start (Unopened why place rest) got = Appends-nil got
-GainsFrontOf-start (Misdescribed line rest) got = Appends-nil got
+GainsFrontOf-start (Misdescribed bad rest) got = Appends-nil got
 GainsFrontOf-start (Serving desc session) got = GainsFront-start desc session got
 
 -- nothing was put, and nothing after the description was taken
-GainsTakenOf-after : (before : Described) (base : ℕ) (rest : List ℕ) (bad : Option ℕ)
+GainsTakenOf-after : (base : ℕ) (rest : List ℕ) (read : Result DescOf BadLine)
     (got left : Option (List ℕ))
     → IsLeftOf left (length rest)
-    → GainsTakenOf (script_after before base rest bad) got got left
-GainsTakenOf-after before base rest None got left is_left =
-    GainsTaken-start before.desc base rest got left is_left
-GainsTakenOf-after before base rest (Some line) got left is_left = Appends-nil got
+    → GainsTakenOf (script_after base rest read) got got left
+GainsTakenOf-after base rest (Ok desc) got left is_left =
+    GainsTaken-start desc base rest got left is_left
+GainsTakenOf-after base rest (Err bad) got left is_left = Appends-nil got
 
 -- nothing was put, and nothing after the `go` line was taken
-GainsTakenOf-start : (before : Described) (end : OpeningEnd) (got left : Option (List ℕ))
+GainsTakenOf-start : (read : Result DescOf BadLine) (end : OpeningEnd)
+    (got left : Option (List ℕ))
     → IsBeforeGo end left
-    → GainsTakenOf (script_at before end) got got left
-GainsTakenOf-start before (Go taken rest) got left is_left =
-    GainsTakenOf-after before taken rest before.bad got left is_left
-GainsTakenOf-start before (Broken why place rest) got left is_left = Appends-nil got
+    → GainsTakenOf (script_at read end) got got left
+GainsTakenOf-start read (Go taken rest) got left is_left =
+    GainsTakenOf-after taken rest read got left is_left
+GainsTakenOf-start read (Broken why place rest) got left is_left = Appends-nil got
 
 -- the run of an input whose description was not read
 pub IsRun-unopened : (input : List ℕ) (got left : Option (List ℕ)) (room : Option ℕ)
@@ -73,7 +75,7 @@ pub IsRun-unopened : (input : List ℕ) (got left : Option (List ℕ)) (room : O
     → IsRun (reading input) got got left room (status_of_fault fault)
 IsRun-unopened input got left room (Input why place) breaks =
     subst (λ (end : OpeningEnd).
-    IsRun (script_at (described (opening input).lines) end) got got left room
+    IsRun (script_at (drafted (opening input).lines).read end) got got left room
     (status.Input why place))
     (sym breaks.1)
     (record {
@@ -84,7 +86,7 @@ IsRun-unopened input got left room (Input why place) breaks =
     })
 IsRun-unopened input got left room ReadFault is_before = record {
   told = tt;
-  gains = GainsTakenOf-start (described (opening input).lines) (opening input).end got left
+  gains = GainsTakenOf-start (drafted (opening input).lines).read (opening input).end got left
       is_before;
   left = λ whole. cc;
   fits = λ room blamed. cc;
@@ -96,31 +98,35 @@ IsRun-unopened input got left room Memory breaks = record {
   fits = λ room blamed. cc;
 }
 
--- a bad description is followed by what is left after its `go` line
-reading-misdescribed : (input : List ℕ) (before : Described) (taken line : ℕ) (rest : List ℕ)
-    → before ≡ described (opening input).lines → (opening input).end ≡ Go taken rest
-    → before.bad ≡ Some line
-    → reading input ≡ Misdescribed line rest
-reading-misdescribed input before taken line rest describes ends is_bad =
-    ap (λ (before : Described). script_at before (opening input).end) (sym describes)
-    ∙ ap (λ (end : OpeningEnd). script_at before end) ends
-    ∙ ap (λ (bad : Option ℕ). script_after before taken rest bad) is_bad
-
 -- the run of an input whose description is not accepted
-pub IsRun-misdescribed : (input : List ℕ) (before : Described) (taken line : ℕ)
+pub IsRun-misdescribed : (input : List ℕ) (draft : DraftOf) (taken : ℕ) (bad : BadLine)
     (got left : Option (List ℕ)) (room : Option ℕ)
-    → IsOpening (opening input) taken left (Ok before) → before.bad ≡ Some line
-    → IsRun (reading input) got got left room (status.BadDescription line cause.Later)
-IsRun-misdescribed input before taken line got left room opened is_bad =
+    → IsOpening (opening input) taken left (Ok draft) → draft.read ≡ Err bad
+    → IsRun (reading input) got got left room (status.BadDescription bad.line bad.cause)
+IsRun-misdescribed input draft taken bad got left room opened is_read =
     subst (λ (script : Script). IsRun script got got left room
-    (status.BadDescription line cause.Later))
-    (sym (reading-misdescribed input before taken line opened.0 opened.1 opened.2 is_bad))
+    (status.BadDescription bad.line bad.cause))
+    (sym (reading-opened input draft (Err bad) taken opened.0 opened.1 opened.2 is_read))
     (record {
       told = refl;
       gains = Appends-nil got;
       left = λ whole. opened.3;
       fits = λ room blamed. cc;
     })
+
+-- what was read, where it is a description
+pub read_of-ok : (read : Result AcceptedDesc BadLine) (served : AcceptedDesc)
+    (found : Result DescOf BadLine)
+    → read_of read ≡ found → read ≡ Ok served → found ≡ Ok served.desc
+read_of-ok read served found is_found is_ok =
+    sym is_found ∙ ap (λ (read : Result AcceptedDesc BadLine). read_of read) is_ok
+
+-- what was read, where it is a bad line
+pub read_of-err : (read : Result AcceptedDesc BadLine) (bad : BadLine)
+    (found : Result DescOf BadLine)
+    → read_of read ≡ found → read ≡ Err bad → found ≡ Err bad
+read_of-err read bad found is_found is_err =
+    sym is_found ∙ ap (λ (read : Result AcceptedDesc BadLine). read_of read) is_err
 
 -- a run of which nothing was asked
 pub IsRun-usage : (got left left_now : Option (List ℕ)) (room : Option ℕ)

@@ -1,10 +1,13 @@
 -- The reading of a script: what its bytes say, item by item, and how it ends.
 use Rattle.std.specs.Prelude.{ℕ, zero, suc, ◌+◌, ◌-◌, List, [], ◌∷◌, Option, Some, None, nat_lt}
-use Rattle.std.specs.Prelude.{nat_le, if◌then◌else◌, length, take, drop, min}
+use Rattle.std.specs.Prelude.{nat_le, if◌then◌else◌, length, take, drop, min, Result, Ok, Err}
 use Rattle.std.specs.Io.BufRead.{first_line}
 use Rattle.depot_io.specs.Lines.{LIMIT, line_take, span}
+use Rattle.desc_lines.specs.Words.{words, is_empty, is_go}
 use Rattle.table_desc.specs.declared.delivery.DRow.{DRow}
+use Rattle.table_desc.specs.declared.reading.fault.BadLine.{BadLine}
 use Rattle.table_desc.specs.Descriptions.{DescOf}
+use Rattle.table_desc.specs.Drafts.{drafted}
 use Rattle.depot_cli.specs.declared.script.order.Head.{Head}
 use Rattle.depot_cli.specs.declared.script.order.Order.{Order}
 use Rattle.depot_cli.specs.declared.script.order.Order.TheVariants as order
@@ -12,8 +15,6 @@ use Rattle.depot_cli.specs.declared.script.work.Work.{Work}
 use Rattle.depot_cli.specs.declared.script.work.Work.TheVariants as work
 use Rattle.depot_cli.specs.declared.run.status.InputEnd.{InputEnd}
 use Rattle.depot_cli.specs.declared.run.status.InputEnd.TheVariants as why
-use Rattle.table_desc.specs.Words.{words, is_empty}
-use Rattle.table_desc.specs.Grammar.{Described, described, is_go}
 use Rattle.depot_cli.specs.Orders.{order_of}
 use Rattle.feed_csv.specs.Bodies.{rows_of}
 
@@ -174,23 +175,23 @@ session_from desc base (suc turns) taken bytes =
 abbrev pub session : DescOf → (base : ℕ) → List ℕ → Session
 session desc base input = session_from desc base (suc (length input)) 0 input
 
--- the reading of an input: the description cannot be read to its `go` line, it is not accepted,
--- or a session follows it; if none follows, with what is left
+-- the reading of an input: the description cannot be read to its `go` line, it has a bad line, or
+-- a session follows it; if none follows, with what is left
 pub data Script : Type 0 where
   Unopened : InputEnd → (place : ℕ) → (rest : List ℕ) → Script
-  Misdescribed : (line : ℕ) → (rest : List ℕ) → Script
+  Misdescribed : BadLine → (rest : List ℕ) → Script
   Serving : DescOf → Session → Script
 
--- the script after a description, at its `go` line
-abbrev pub script_after : Described → (base : ℕ) → List ℕ → Option ℕ → Script
-script_after before base rest None = Serving before.desc (session before.desc base rest)
-script_after before base rest (Some line) = Misdescribed line rest
+-- the script after the lines of a description, at the `go` line
+abbrev pub script_after : (base : ℕ) → List ℕ → Result DescOf BadLine → Script
+script_after base rest (Ok desc) = Serving desc (session desc base rest)
+script_after base rest (Err bad) = Misdescribed bad rest
 
--- the script that an opening begins
-abbrev pub script_at : Described → OpeningEnd → Script
-script_at before (Go taken rest) = script_after before taken rest before.bad
-script_at before (Broken cause place rest) = Unopened cause place rest
+-- the script that an opening begins, by what its lines declare
+abbrev pub script_at : Result DescOf BadLine → OpeningEnd → Script
+script_at read (Go taken rest) = script_after taken rest read
+script_at read (Broken cause place rest) = Unopened cause place rest
 
 -- the reading of an input
 abbrev pub reading : List ℕ → Script
-reading input = script_at (described (opening input).lines) (opening input).end
+reading input = script_at (drafted (opening input).lines).read (opening input).end

@@ -9,7 +9,6 @@ use Rattle.depot_io.specs.Puts.{GainsPrefix, HasRoomFor}
 use Rattle.std.specs.Str.{bytes_eq}
 use Rattle.depot_cli.specs.declared.run.status.Status.{Status}
 use Rattle.depot_cli.specs.declared.run.status.Status.TheVariants as status
-use Rattle.depot_cli.specs.declared.run.status.DescCause.TheVariants as cause
 use Rattle.depot_cli.specs.declared.run.status.InputEnd.{InputEnd}
 use Rattle.depot_cli.specs.declared.run.status.InputEnd.TheVariants as why
 use Rattle.depot_cli.specs.Reading.{Script, Unopened, Misdescribed, Serving, Session, SessionEnd}
@@ -38,7 +37,7 @@ session_status session (Stopped why place _) = status.Input why place
 -- the status that a reading gives to a run which no device and no want of memory ends
 abbrev pub status_of : Script → Status
 status_of (Unopened why place _) = status.Input why place
-status_of (Misdescribed line _) = status.BadDescription line cause.Later
+status_of (Misdescribed bad _) = status.BadDescription bad.line bad.cause
 status_of (Serving desc session) = session_status session session.end
 
 -- a status is the reading's, except those of the devices, of memory and of the command line

@@ -14,7 +14,7 @@ use Rattle.partition_map.specs.Time.{END}
 use Rattle.table_desc.specs.Descriptions.{DescOf}
 use Rattle.depot_cli.specs.SerialJournal.{journal_after}
 use Rattle.depot_cli.specs.KeptJournals.{IsCutShort, JournalOf}
-use Rattle.table_desc.specs.Grammar.{Described, described}
+use Rattle.table_desc.specs.Drafts.{DraftOf, drafted}
 use Rattle.depot_cli.specs.Reading.{NextLine, NoLine, Unreadable, Line, NextBody, Unfinished, Body}
 use Rattle.depot_cli.specs.Reading.{Opening, OpeningEnd, Go, Broken, Step, Ends, Does, Ended}
 use Rattle.depot_cli.specs.Reading.{Stopped}
@@ -60,11 +60,11 @@ abbrev pub IsBeforeGo : OpeningEnd → Option (List ℕ) → Type 0
 IsBeforeGo (Go taken rest) left = IsLeftOf left (length rest)
 IsBeforeGo (Broken why place rest) left = ⊤
 
--- the answer for an opening: what its lines describe, and what was taken and is left after it
+-- the answer for an opening: what its lines declare, and what was taken and is left after it
 abbrev pub IsOpening : Opening → (taken : ℕ) → (left : Option (List ℕ))
-    → Result Described ScriptFault → Type 0
-IsOpening opening taken left (Ok before) = (rest : List ℕ)
-    × (before ≡ described opening.lines) × (opening.end ≡ Go taken rest) × IsLeft left rest
+    → Result DraftOf ScriptFault → Type 0
+IsOpening opening taken left (Ok draft) = (rest : List ℕ)
+    × (draft ≡ drafted opening.lines) × (opening.end ≡ Go taken rest) × IsLeft left rest
 IsOpening opening taken left (Err (Input why place)) =
     (rest : List ℕ) × (opening.end ≡ Broken why place rest) × IsLeft left rest
 IsOpening opening taken left (Err ReadFault) = IsBeforeGo opening.end left
@@ -151,8 +151,8 @@ IsReplyRoom before now reply (Err _) = ⊤
 
 -- the answer for an opening that was taken off a lent source, and how many bytes it took
 abbrev pub IsOpened : Opening → (left : Option (List ℕ))
-    → Result (Described × ℕ) ScriptFault → Type 0
-IsOpened opening left (Ok (before, taken)) = IsOpening opening taken left (Ok before)
+    → Result (DraftOf × ℕ) ScriptFault → Type 0
+IsOpened opening left (Ok (draft, taken)) = IsOpening opening taken left (Ok draft)
 IsOpened opening left (Err fault) = IsOpening opening 0 left (Err fault)
 
 -- what an item that was not replied to left of the journal: it was done, if the sink failed

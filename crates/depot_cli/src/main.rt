@@ -14,7 +14,7 @@ mod tests;
 use crate::run::help::{print, text_asked};
 pub use crate::run::laws::{readings_are_accepted, runs_are_complete, serial_is_legal};
 pub use crate::run::run;
-pub use crate::run::status::{DescCause, InputEnd, Status};
+pub use crate::run::status::{InputEnd, Status};
 use depot_io::{StdSink, StdSource};
 use std::env;
 use std::io::ErrorKind;

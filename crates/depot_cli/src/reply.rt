@@ -30,14 +30,14 @@ use crate::script::work::Work;
 use depot_cell::{Memory, Rows};
 use partition_map::{Parts, parts_of_span};
 use std::alloc::Global;
-use table_desc::{Delivery, Key, Kind, ServedDesc, Table};
+use table_desc::{Delivery, Key, Kind, AcceptedDesc, Table};
 use view_meaning::{Item, Loaded, Mark, PinItem, plain_value, plain_version};
 
 /// Does what an item asks for, and makes the text of the reply. `line` is the item's line, from 1.
 /// Without memory a drain may have made some of its installs, and nothing else has changed.
 pub fn answer(
     alloc: Global,
-    served: &ServedDesc,
+    served: &AcceptedDesc,
     line: u64,
     journal: &mut Journal,
     work: Work,
@@ -64,7 +64,7 @@ pub fn answer(
 /// Loads a delivery, unless its number was accepted before.
 fn load(
     alloc: Global,
-    served: &ServedDesc,
+    served: &AcceptedDesc,
     journal: &mut Journal,
     delivery: Delivery,
 ) -> Result<Vec<u8>, Memory>
@@ -91,7 +91,7 @@ fn load(
 }
 
 /// Computes all that is not settled, and tells the place.
-fn drain_text(alloc: Global, served: &ServedDesc, journal: &mut Journal) -> Result<Vec<u8>, Memory>
+fn drain_text(alloc: Global, served: &AcceptedDesc, journal: &mut Journal) -> Result<Vec<u8>, Memory>
     requires kept { IsKept served.now.desc journal.old }
     ensures exact { IfOk result (λ text.
         text.items ≡ drained_text (length (drained served.now.desc journal.old.entries))) }
@@ -105,7 +105,7 @@ fn drain_text(alloc: Global, served: &ServedDesc, journal: &mut Journal) -> Resu
 }
 
 /// The name of a feed.
-fn feed_name(served: &ServedDesc, feed: u16) -> &[u8]
+fn feed_name(served: &AcceptedDesc, feed: u16) -> &[u8]
     ensures exact { result.now ≡ feed_name served.now.desc feed }
 {
     match served.desc.feeds.get(feed as usize) {
@@ -117,7 +117,7 @@ fn feed_name(served: &ServedDesc, feed: u16) -> &[u8]
 /// The answer to a query: the partitions of its table that it asks for, each with its rows.
 fn query_text(
     alloc: Global,
-    served: &ServedDesc,
+    served: &AcceptedDesc,
     journal: &Journal,
     item: Item,
 ) -> Result<Vec<u8>, Memory>
@@ -139,7 +139,7 @@ fn query_text(
 }
 
 /// The table with this number.
-fn table_at(served: &ServedDesc, number: u16) -> Option<&Table>
+fn table_at(served: &AcceptedDesc, number: u16) -> Option<&Table>
     ensures exact { option_copied result ≡ slice_get served.now.desc.tables number }
 {
     served.desc.tables.get(number as usize)
@@ -148,7 +148,7 @@ fn table_at(served: &ServedDesc, number: u16) -> Option<&Table>
 /// Puts a run of partitions of a table after a text.
 fn put_parts(
     alloc: Global,
-    served: &ServedDesc,
+    served: &AcceptedDesc,
     journal: &Journal,
     table: &Table,
     number: u16,
@@ -179,7 +179,7 @@ fn put_parts(
 /// One partition of an answer: its line, and its rows.
 fn shown_text(
     alloc: Global,
-    served: &ServedDesc,
+    served: &AcceptedDesc,
     journal: &Journal,
     table: &Table,
     key: Key,
@@ -199,7 +199,7 @@ fn shown_text(
 /// One partition of a raw table: its rows are those of all deliveries.
 fn raw_text(
     alloc: Global,
-    served: &ServedDesc,
+    served: &AcceptedDesc,
     journal: &Journal,
     table: &Table,
     key: Key,
@@ -222,7 +222,7 @@ fn raw_text(
 /// One partition of a view: its rows are those of its latest version.
 fn view_text(
     alloc: Global,
-    served: &ServedDesc,
+    served: &AcceptedDesc,
     journal: &Journal,
     table: &Table,
     key: Key,

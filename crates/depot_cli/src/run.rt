@@ -12,11 +12,11 @@ ghost use Rattle.depot_cli.specs.ScriptCalls.{IsOpened, IsScriptCause};
 ghost use Rattle.depot_cli.specs.Runs.{EndsSession, HasRunCauses, IsRun, is_trial, is_unserved};
 
 use crate::run::session::{serve, status_of};
-use crate::run::status::{DescCause, Status};
+use crate::run::status::Status;
 use crate::script::{ScriptFault, read_opening};
 use depot_io::{LineReader, Sink, Source};
 use std::alloc::Global;
-use table_desc::{Draft, ServedDesc};
+use table_desc::{AcceptedDesc, Draft};
 
 /// Runs a command: `words` are those after the folder. The one command is `trial`. It reads a
 /// description up to its `go` line and then session lines off the source, and puts the replies
@@ -71,16 +71,13 @@ fn trial<S: Source, O: Sink>(alloc: Global, source: &mut S, sink: &mut O) -> Sta
         Ok(opened) => opened,
         Err(fault) => return status_of(fault),
     };
-    match draft.bad() {
-        Some(line) => {
-            return Status::BadDescription {
-                line,
-                cause: DescCause::Later,
-            };
-        }
-        None => {}
+    match draft.into_read() {
+        Ok(served) => serve_source(alloc, &served, base, source, sink),
+        Err(bad) => Status::BadDescription {
+            line: bad.line,
+            cause: bad.cause,
+        },
     }
-    serve_source(alloc, &draft.into_served(), base, source, sink)
 }
 
 /// Takes a description off a source, up to its `go` line, and says how many bytes that took.
@@ -111,7 +108,7 @@ fn open<S: Source>(alloc: Global, source: &mut S) -> Result<(Draft, u64), Script
 /// Serves the session lines that a source has left. `base` is the place at which they begin.
 fn serve_source<S: Source, O: Sink>(
     alloc: Global,
-    served: &ServedDesc,
+    served: &AcceptedDesc,
     base: u64,
     source: &mut S,
     sink: &mut O,

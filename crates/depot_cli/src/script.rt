@@ -7,8 +7,7 @@ ghost use Rattle.std.specs.Prelude.{◌≡◌, ◌+◌, ◌≤◌, ◌<◌, leng
 ghost use Rattle.std.specs.Prelude.{Ok, true};
 ghost use Rattle.depot_io.specs.Lines.{LIMIT, line_take};
 ghost use Rattle.depot_io.specs.Reading.{ReadsOn};
-ghost use Rattle.table_desc.specs.Words.{words};
-ghost use Rattle.table_desc.specs.Grammar.{is_go};
+ghost use Rattle.desc_lines.specs.Words.{is_go, words};
 ghost use Rattle.depot_cli.specs.Orders.{BODY_LIMIT};
 ghost use Rattle.depot_cli.specs.Reading.{line_due, next_line, next_body};
 ghost use Rattle.depot_cli.specs.Reading.{body_work as work_of_body, step_of, opening};
@@ -21,9 +20,10 @@ use crate::script::order::{Head, Order, read_order};
 use crate::script::work::Work;
 use depot_cell::Memory;
 use depot_io::{Line, LineFault, LineReader, Source};
+use desc_lines::{is_go, words_of};
 use feed_csv::read_rows;
 use std::alloc::Global;
-use table_desc::{Delivery, Draft, ServedDesc, is_go, words_of};
+use table_desc::{AcceptedDesc, Delivery, Draft};
 
 /// Why a script was not read on.
 #[derive(Clone, Copy, Debug, PartialEq, Eq, Drop)]
@@ -115,7 +115,7 @@ fn take_body<S: Source>(
 /// What a body asks for: it is refused with its line.
 fn body_work(
     alloc: Global,
-    served: &ServedDesc,
+    served: &AcceptedDesc,
     head: Option<Head>,
     body: &[u8],
 ) -> Result<Work, Memory>
@@ -140,7 +140,7 @@ fn body_work(
 /// of the input or at the word `end`. `body` is room that is used again.
 pub fn next_work<S: Source>(
     alloc: Global,
-    served: &ServedDesc,
+    served: &AcceptedDesc,
     base: u64,
     reader: &mut LineReader<S>,
     body: &mut Vec<u8>,
@@ -207,6 +207,6 @@ pub fn read_opening<S: Source>(
         if is_go_line(alloc, reader.line())? {
             return Ok(draft);
         }
-        draft.add_line(alloc, reader.line())?;
+        draft = draft.with_line(alloc, reader.line())?;
     }
 }

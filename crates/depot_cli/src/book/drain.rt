@@ -7,12 +7,12 @@ ghost use Rattle.depot_cli.specs.KeptJournals.{DrainsSome, IsKept};
 use crate::book::journal::Journal;
 use depot_cell::Memory;
 use std::alloc::Global;
-use table_desc::ServedDesc;
+use table_desc::AcceptedDesc;
 use view_meaning::{plain_value, reached_keys};
 
 /// Installs each partition of a view that is not settled, in order of key. These are the ones that
 /// the deliveries since the last drain reach. Without memory the first of them may be installed.
-pub fn drain(alloc: Global, served: &ServedDesc, journal: &mut Journal) -> Result<(), Memory>
+pub fn drain(alloc: Global, served: &AcceptedDesc, journal: &mut Journal) -> Result<(), Memory>
     requires kept { IsKept served.now.desc journal.old }
     ensures ok { OnOk result (journal.new.entries ≡ drained served.now.desc journal.old.entries) }
     ensures kept { OnOk result (IsKept served.now.desc journal.new) }

@@ -5,7 +5,7 @@ ghost use Rattle.depot_cli.specs.Runs.{IsPrinted, IsWriteCause, text_asked};
 
 use crate::run::status::Status;
 use depot_io::{Sink, put_all};
-use table_desc::is_word;
+use desc_lines::is_word;
 
 const HELP: &[u8] = b"\
 depot_cli: a stream warehouse with cascading views

@@ -19,13 +19,13 @@ use depot_cell::Memory;
 use depot_io::{LineReader, Sink, Source, put_all};
 use std::alloc::Global;
 use std::mem;
-use table_desc::ServedDesc;
+use table_desc::AcceptedDesc;
 
 /// Serves the session lines that a reader has left, up to the end of its input or to the word
 /// `end`. `base` is the place at which the reader's input begins.
 pub fn serve<S: Source, O: Sink>(
     alloc: Global,
-    served: &ServedDesc,
+    served: &AcceptedDesc,
     base: u64,
     reader: &mut LineReader<S>,
     sink: &mut O,
@@ -50,7 +50,7 @@ pub fn serve<S: Source, O: Sink>(
 /// Serves the items over a journal that is empty.
 fn serve_items<S: Source, O: Sink>(
     alloc: Global,
-    served: &ServedDesc,
+    served: &AcceptedDesc,
     base: u64,
     journal: &mut Journal,
     reader: &mut LineReader<S>,
@@ -91,7 +91,7 @@ fn serve_items<S: Source, O: Sink>(
 /// a front of the reply, and if there was no memory nothing.
 fn serve_item<O: Sink>(
     alloc: Global,
-    served: &ServedDesc,
+    served: &AcceptedDesc,
     line: u64,
     journal: &mut Journal,
     work: Work,

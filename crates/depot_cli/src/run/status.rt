@@ -4,14 +4,7 @@ ghost use Rattle.std.specs.Prelude.{◌≡◌, nat_le};
 ghost use Rattle.depot_cli.specs.Runs.{code_of};
 
 use std::fmt;
-
-/// Why a line of a description was not accepted.
-#[derive(Clone, Copy, Debug, PartialEq, Eq)]
-pub enum DescCause {
-    /// The line is of a form that is not built yet, or is wrong in one: the causes are not told
-    /// apart yet.
-    Later,
-}
+use table_desc::DescCause;
 
 /// Why the input could not be read to its end.
 #[derive(Clone, Copy, Debug, PartialEq, Eq)]
@@ -37,7 +30,8 @@ pub enum Status {
     Refused,
     /// The words of the command line are no command.
     Usage,
-    /// The description is not accepted; `line` is its first bad line, from 1.
+    /// The description is not accepted: `line` is its first bad line, from 1, and `cause` the first
+    /// cause that makes it bad.
     BadDescription { line: u64, cause: DescCause },
     /// The input could not be read on; `place` is the offset of the first byte of what could not
     /// be read.
@@ -83,20 +77,12 @@ impl fmt::Display for Status {
             Status::Refused => write!(f, "refused"),
             Status::Usage => write!(f, "usage: depot_cli FOLDER trial"),
             Status::BadDescription { line, cause } => {
-                write!(f, "depot: description line {line}: {cause}")
+                write!(f, "depot: description line {line}: {}", cause.text())
             }
             Status::Input { why, place } => write!(f, "depot: input: {why} at {place}"),
             Status::ReadFault => write!(f, "depot: reading failed"),
             Status::WriteFault => write!(f, "depot: writing failed"),
             Status::Memory => write!(f, "depot: no memory"),
-        }
-    }
-}
-
-impl fmt::Display for DescCause {
-    fn fmt<W: fmt::Write>(&self, f: &mut fmt::Formatter<W>) -> fmt::Result {
-        match self {
-            DescCause::Later => f.write_str("later"),
         }
     }
 }

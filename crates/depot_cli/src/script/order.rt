@@ -5,17 +5,16 @@ ghost use Rattle.std.specs.Str.{bytes_eq};
 ghost use Rattle.table_desc.specs.Sources.{width_of};
 ghost use Rattle.partition_map.specs.Time.{END as the_end};
 ghost use Rattle.partition_map.specs.Partitions.{parts_met};
-ghost use Rattle.table_desc.specs.Words.{is_empty};
+ghost use Rattle.desc_lines.specs.Words.{is_empty};
 ghost use Rattle.depot_cli.specs.Orders.{deliver_order, asked, head_of, item_of, item_read};
 ghost use Rattle.depot_cli.specs.Orders.{number_below, order_of, order_of_words, query_order};
 ghost use Rattle.depot_cli.specs.Orders.{sized};
 
 use depot_cell::{Memory, read_number};
+use desc_lines::{begins_comment, is_word, words_of};
 use partition_map::parts_of_span;
 use std::alloc::Global;
-use table_desc::{
-    END, ServedDesc, Width, begins_comment, find_feed, find_table, is_word, words_of,
-};
+use table_desc::{AcceptedDesc, END, Width, find_feed, find_table};
 use view_meaning::{Item, Mark};
 
 /// The most bytes of a body.
@@ -52,7 +51,7 @@ pub enum Order {
 }
 
 /// What a line asks for, which is given without its LF.
-pub fn read_order(alloc: Global, served: &ServedDesc, line: &[u8]) -> Result<Order, Memory>
+pub fn read_order(alloc: Global, served: &AcceptedDesc, line: &[u8]) -> Result<Order, Memory>
     ensures exact { IfOk result (λ order. order ≡ order_of served.now.desc line.now) }
 {
     match words_of(alloc, line) {
@@ -61,7 +60,7 @@ pub fn read_order(alloc: Global, served: &ServedDesc, line: &[u8]) -> Result<Ord
     }
 }
 
-fn order_of_words(served: &ServedDesc, words: &[&[u8]]) -> Order
+fn order_of_words(served: &AcceptedDesc, words: &[&[u8]]) -> Order
     ensures exact { result ≡ order_of_words served.now.desc (map (λ word. word.now) words.now) }
 {
     match words {
@@ -92,7 +91,7 @@ fn is_alone(first: &[u8], others: &[&[u8]], word: &[u8]) -> bool
     is_word(first, word) && others.is_empty()
 }
 
-fn deliver_order(served: &ServedDesc, words: &[&[u8]]) -> Order
+fn deliver_order(served: &AcceptedDesc, words: &[&[u8]]) -> Order
     ensures exact { result ≡ deliver_order served.now.desc (map (λ word. word.now) words.now) }
 {
     match words {
@@ -113,16 +112,16 @@ fn sized(head: Option<Head>, size: Option<u64>) -> Order
     }
 }
 
-fn head_of(served: &ServedDesc, feed: &[u8], number: &[u8], closes: &[u8]) -> Option<Head>
+fn head_of(served: &AcceptedDesc, feed: &[u8], number: &[u8], closes: &[u8]) -> Option<Head>
     ensures exact { result ≡ head_of served.now.desc feed.now number.now closes.now }
 {
-    let feed = find_feed(served, feed)?;
+    let feed = find_feed(&served.desc, feed)?;
     let number = number_below(1 << 32, number)? as u32;
     number_below(1, closes)?;
     Some(Head { feed, number })
 }
 
-fn query_order(served: &ServedDesc, words: &[&[u8]]) -> Order
+fn query_order(served: &AcceptedDesc, words: &[&[u8]]) -> Order
     ensures exact { result ≡ query_order served.now.desc (map (λ word. word.now) words.now) }
 {
     match words {
@@ -140,16 +139,16 @@ fn asked(item: Option<Item>) -> Order
     }
 }
 
-fn item_read(served: &ServedDesc, table: &[u8], from: &[u8], to: &[u8]) -> Option<Item>
+fn item_read(served: &AcceptedDesc, table: &[u8], from: &[u8], to: &[u8]) -> Option<Item>
     ensures exact { result ≡ item_read served.now.desc table.now from.now to.now }
 {
-    let table = find_table(served, table)?;
+    let table = find_table(&served.desc, table)?;
     let from = number_below(END + 1, from)?;
     let to = number_below(END + 1, to)?;
     item_of(served, table, from, to)
 }
 
-fn item_of(served: &ServedDesc, table: u16, from: u64, to: u64) -> Option<Item>
+fn item_of(served: &AcceptedDesc, table: u16, from: u64, to: u64) -> Option<Item>
     requires there { table < length served.now.desc.tables }
     requires in_time { to ≤ the_end }
     ensures exact { result ≡ item_of served.now.desc table from to }
@@ -166,7 +165,7 @@ fn item_of(served: &ServedDesc, table: u16, from: u64, to: u64) -> Option<Item>
     }
 }
 
-fn count_of(served: &ServedDesc, table: u16, from: u64, to: u64) -> u64
+fn count_of(served: &AcceptedDesc, table: u16, from: u64, to: u64) -> u64
     requires there { table < length served.now.desc.tables }
     requires in_order { from ≤ to }
     requires in_time { to ≤ the_end }
@@ -176,7 +175,7 @@ fn count_of(served: &ServedDesc, table: u16, from: u64, to: u64) -> u64
     parts_of_span(width_of(served, table), from, to).count
 }
 
-fn width_of(served: &ServedDesc, table: u16) -> Width
+fn width_of(served: &AcceptedDesc, table: u16) -> Width
     requires there { table < length served.now.desc.tables }
     ensures exact { result ≡ width_of (slice_get served.now.desc.tables table) }
 {

@@ -3,15 +3,18 @@
 use crate::script::order::{Head, Order, read_order};
 use std::alloc::Global;
 use std::test::Fail;
-use table_desc::{Draft, ServedDesc};
+use table_desc::{AcceptedDesc, Draft};
 use view_meaning::{Item, Mark};
 
 /// A feed `f` and a raw table `r`.
-fn served(alloc: Global) -> Result<ServedDesc, Fail> {
-    let mut draft = Draft::new(alloc);
-    draft.add_line(alloc, b"feed f")?;
-    draft.add_line(alloc, b"raw r feed f width 10 time at cols at:int n:int")?;
-    Ok(draft.into_served())
+fn served(alloc: Global) -> Result<AcceptedDesc, Fail> {
+    let draft = Draft::new(alloc)
+        .with_line(alloc, b"feed f")?
+        .with_line(alloc, b"raw r feed f width 10 time at cols at:int n:int")?;
+    match draft.into_read() {
+        Ok(served) => Ok(served),
+        Err(bad) => Err(Fail::new(bad.cause.text())),
+    }
 }
 
 /// Expects that a line asks for this.

@@ -4,11 +4,12 @@ ghost use Rattle.std.specs.Prelude.{None};
 
 use super::{NONE, TRIAL, expect_end, expect_run, run_words};
 use crate::run::laws::{runs_are_complete, serial_is_legal};
-use crate::run::status::{DescCause, InputEnd, Status};
+use crate::run::status::{InputEnd, Status};
 use depot_io::{Failed, NeverSource, Sink, Source};
 use std::alloc::Global;
 use std::cell::Cell;
 use std::test::Fail;
+use table_desc::DescCause;
 
 /// Inputs that end before a `go` line, and the places at which they do.
 static NO_GO: [(&[u8], u64); 4] = [
@@ -18,23 +19,17 @@ static NO_GO: [(&[u8], u64); 4] = [
     (b"feed by\n", 8),
 ];
 
-/// Inputs with a description that is not accepted, and their first bad lines.
-static BAD: [(&[u8], u64); 2] = [
-    (b"feed by\ngo\nmarks\n", 1),
-    (b"# none\nfeed f\nfeed g\nfeed h\ngo\n", 3),
+/// Inputs with a description that is not accepted, their first bad lines, and why these are bad.
+static BAD: [(&[u8], u64, DescCause); 3] = [
+    (b"feed by\ngo\nmarks\n", 1, DescCause::BadName),
+    (b"# none\nfeed f\nfeed f\nfeed by\ngo\n", 3, DescCause::DoubleName),
+    (b"feed f\n\nfeed g \xff\ngo\n", 3, DescCause::BadLine),
 ];
 
 fn no_go(place: u64) -> Status {
     Status::Input {
         why: InputEnd::NoGo,
         place,
-    }
-}
-
-fn later(line: u64) -> Status {
-    Status::BadDescription {
-        line,
-        cause: DescCause::Later,
     }
 }
 
@@ -48,8 +43,9 @@ fn an_input_may_have_no_go_line(rt: HostRuntime) -> Result<(), Fail> {
 
 #[test]
 fn a_description_is_read_to_its_go_line(rt: HostRuntime) -> Result<(), Fail> {
-    for &(input, line) in &BAD {
-        expect_run(rt.alloc(), TRIAL, input, NONE, later(line), b"")?;
+    for &(input, line, cause) in &BAD {
+        let bad = Status::BadDescription { line, cause };
+        expect_run(rt.alloc(), TRIAL, input, NONE, bad, b"")?;
     }
     expect_run(rt.alloc(), TRIAL, b"\tgo \r\n", NONE, Status::Done, b"")
 }

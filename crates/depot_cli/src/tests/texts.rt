@@ -3,11 +3,11 @@
 use super::expect_bytes;
 use crate::reply::texts::{part_text, refused_text};
 use crate::run::help::{print, text_asked};
-use crate::run::status::{DescCause, InputEnd, Status};
+use crate::run::status::{InputEnd, Status};
 use depot_io::VecSink;
 use std::alloc::Global;
 use std::test::Fail;
-use table_desc::Key;
+use table_desc::{DescCause, Key};
 use view_meaning::{Mark, PinItem};
 
 /// The stored run shows each other text of a reply.
@@ -31,7 +31,7 @@ static STATUSES: [(Status, u8, &str); 7] = [
     (Status::Done, 0, "done"),
     (Status::Refused, 1, "refused"),
     (Status::Usage, 2, "usage: depot_cli FOLDER trial"),
-    (BAD, 3, "depot: description line 3: later"),
+    (BAD, 3, "depot: description line 3: bad_width"),
     (Status::ReadFault, 5, "depot: reading failed"),
     (Status::WriteFault, 6, "depot: writing failed"),
     (Status::Memory, 9, "depot: no memory"),
@@ -39,7 +39,7 @@ static STATUSES: [(Status, u8, &str); 7] = [
 
 const BAD: Status = Status::BadDescription {
     line: 3,
-    cause: DescCause::Later,
+    cause: DescCause::BadWidth,
 };
 
 /// The ends of an input, and their lines if they come at 138.

@@ -1,14 +1,14 @@
 -- The run is that of the session after the description, if that was read.
-use Rattle.std.proofs.Common.{sym, ◌∙◌}
 use Rattle.std.proofs.lemmas.Option.{IfSome_then}
 use Rattle.depot_cli.proofs.RunLemmas.{IsRun-misdescribed, IsRun-opened, IsRun-unopened}
+use Rattle.depot_cli.proofs.RunLemmas.{read_of-err, read_of-ok}
 use Rattle.depot_cli.proofs.run.trial.Goals as goal
 
-pub returns-clause-run : goal.returns-clause-run
-returns-clause-run g c =
+pub returns-in-Ok-into_read-clause-run : goal.returns-in-Ok-into_read-clause-run
+returns-in-Ok-into_read-clause-run g c =
     IfSome_then _ c.in-Ok.ensures.answer (λ input opened.
-    IsRun-opened input c.in-Ok.opened.0 c.into_served.result.desc c.in-Ok.opened.1 _ _ _ _ _ _
-    opened (sym c.bad.ensures.exact ∙ c.in-None.is) c.into_served.ensures.exact
+    IsRun-opened input c.in-Ok.opened.0 c.in-Ok-into_read.served.desc c.in-Ok.opened.1 _ _ _ _ _ _
+    opened (read_of-ok _ _ _ c.into_read.ensures.exact c.in-Ok-into_read.is)
     c.serve_source.ensures.run)
 
 pub returns-in-Err-clause-run : goal.returns-in-Err-clause-run
@@ -18,8 +18,8 @@ returns-in-Err-clause-run g c =
     (g.S.Source.bytes_left c.open.new.source) (g.O.Sink.room c.args.sink.now) c.in-Err.fault
     breaks))
 
-pub returns-in-Some-clause-run : goal.returns-in-Some-clause-run
-returns-in-Some-clause-run g c =
+pub returns-in-Err-into_read-clause-run : goal.returns-in-Err-into_read-clause-run
+returns-in-Err-into_read-clause-run g c =
     IfSome_then _ c.in-Ok.ensures.answer (λ input opened.
-    IsRun-misdescribed input c.in-Ok.opened.0 c.in-Ok.opened.1 c.in-Some.line _ _ _ opened
-    (sym c.bad.ensures.exact ∙ c.in-Some.is))
+    IsRun-misdescribed input c.in-Ok.opened.0 c.in-Ok.opened.1 c.in-Err-into_read.bad _ _ _ opened
+    (read_of-err _ _ _ c.into_read.ensures.exact c.in-Err-into_read.is))

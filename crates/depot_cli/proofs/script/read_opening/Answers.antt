@@ -1,13 +1,13 @@
 -- Each line is read by what the lemmas on openings say of it.
 use Rattle.std.proofs.Common.{◌≡◌, ◌+◌, List, ℕ, false, true, arith, sym, ◌∙◌, ap, refl}
 use Rattle.std.proofs.lemmas.Option.{IfSome_then}
-use Rattle.table_desc.specs.Words.{words}
-use Rattle.table_desc.specs.Grammar.{Described, is_go, with_line}
+use Rattle.desc_lines.specs.Words.{is_go, words}
+use Rattle.table_desc.specs.Drafts.{DraftOf, with_more}
 use Rattle.depot_cli.specs.Reading.{opening}
 use Rattle.depot_io.proofs.ReadingLemmas.{ReadsOn-same, ReadsOn-step}
 use Rattle.depot_cli.proofs.KnownLemmas.{Err-passed}
 use Rattle.depot_cli.proofs.OpeningLemmas.{HasOpened-fault, HasOpened-go, HasOpened-start}
-use Rattle.depot_cli.proofs.OpeningLemmas.{HasOpened-line, lines-with_line}
+use Rattle.depot_cli.proofs.OpeningLemmas.{HasOpened-line}
 use Rattle.depot_cli.proofs.script.read_opening.Goals as goal
 
 pub lines-init : goal.lines-init
@@ -27,12 +27,11 @@ lines-preserved g c =
     let goes : is_go (words c.take_line.new.reader.line) ≡ false =
     ap (λ (line : List ℕ). is_go (words line)) (sym c.line.ensures.exact)
     ∙ sym c.in_ok-is_go_line.ensures.exact ∙ c.if-branch.false in
-    let next : c.add_line.new.self ≡ with_line c.lines.draft c.take_line.new.reader.line =
-    c.in_ok-add_line.ensures.ok
-    ∙ ap (λ (line : List ℕ). with_line c.lines.draft line) c.line-in-lines.ensures.exact in
-    let counted = lines-with_line c.lines.draft c.take_line.new.reader.line in
-    let count : c.add_line.new.self.lines ≡ c.lines.draft.lines + 1 =
-    ap (λ (before : Described). before.lines) next ∙ counted in
+    let next : c.in_ok-draft.draft ≡ with_more c.lines.draft c.take_line.new.reader.line =
+    c.in_ok-draft.ensures.exact
+    ∙ ap (λ (line : List ℕ). with_more c.lines.draft line) c.line-in-lines.ensures.exact in
+    let count : c.in_ok-draft.draft.lines ≡ c.lines.draft.lines + 1 =
+    ap (λ (draft : DraftOf). draft.lines) next in
     record {
       opened = rw next (IfSome_then _ c.lines.invariant.opened (λ bytes opened.
           HasOpened-line (opening bytes) _ _ _ 0 _ _ _ _ opened there
@@ -85,7 +84,7 @@ returns-then-branch-clause-kept g c =
     ReadsOn-step g.S.Source.bytes_left g.S.Source.loan _ _ _ c.lines.invariant.kept
     c.in_ok-take_line.ensures.kept
 
-pub returns-in_err-add_line-clause-kept : goal.returns-in_err-add_line-clause-kept
-returns-in_err-add_line-clause-kept g c =
+pub returns-in_err-draft-clause-kept : goal.returns-in_err-draft-clause-kept
+returns-in_err-draft-clause-kept g c =
     ReadsOn-step g.S.Source.bytes_left g.S.Source.loan _ _ _ c.lines.invariant.kept
     c.in_ok-take_line.ensures.kept

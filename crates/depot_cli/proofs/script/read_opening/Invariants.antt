@@ -1,4 +1,4 @@
--- The lines so far are described; nothing else of the source changed than what was taken.
+-- The lines so far are drafted; nothing else of the source changed than what was taken.
 use Rattle.std.proofs.Common.{◌≡◌, ◌-◌, ◌≤◌, IfSome}
 use Rattle.depot_io.specs.Lines.{LIMIT}
 use Rattle.depot_io.specs.Reading.{ReadsOn}
