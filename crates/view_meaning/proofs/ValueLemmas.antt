@@ -1,7 +1,7 @@
 -- The value of a view's partition, one table down: `value_within-view`. In a loop over the
 -- partitions of a source take `rows_of_run-push`.
 use Rattle.std.proofs.Common.{◌≡◌, ◌∙◌, ℕ, suc, zero, ◌+◌, ◌-◌, ◌<◌, ◌≤◌, List, [], ◌∷◌, ◌++◌}
-use Rattle.std.proofs.Common.{refl, ap, arith, map}
+use Rattle.std.proofs.Common.{refl, sym, ap, arith, map}
 use Rattle.std.specs.Prelude.{Some, false, flat_map, slice_get}
 use Rattle.std.specs.List.{range_with_len}
 use Rattle.std.proofs.lemmas.Grind.{flat_map-append}
@@ -36,10 +36,10 @@ rows_of_run rows table from many =
     flat_map rows (map (λ part. record { table = table; part = part }) (range_with_len from many))
 
 -- one partition more adds its rows at the end
-pub rows_of_run-push : (rows : Key → List (List Cell)) (table from part : ℕ) → from ≤ part
+rows_of_run-step : (rows : Key → List (List Cell)) (table from part : ℕ) → from ≤ part
     → rows_of_run rows table from (part + 1 - from)
     ≡ rows_of_run rows table from (part - from) ++ rows (record { table = table; part = part })
-rows_of_run-push rows table from part at_least =
+rows_of_run-step rows table from part at_least =
     let key : ℕ → Key = λ (part : ℕ). record { table = table; part = part } in
     let many = part - from in
     ap (λ (count : ℕ). rows_of_run rows table from count)
@@ -48,6 +48,19 @@ rows_of_run-push rows table from part at_least =
     (map-range_with_len_more key from many part (omega arith))
     ∙ flat_map-append rows (map key (range_with_len from many)) (key part ∷ [])
     ∙ ap (λ last. rows_of_run rows table from many ++ last) (append-nil (rows (key part)))
+
+-- rows that are those of the partitions so far are those with the next one, if its rows are put
+-- after them
+pub rows_of_run-push : (rows : Key → List (List Cell)) (table from part : ℕ)
+    (old new : List (List Cell)) → from ≤ part
+    → old ≡ rows_of_run rows table from (part - from)
+    → new ≡ old ++ rows (record { table = table; part = part })
+    → new ≡ rows_of_run rows table from (part + 1 - from)
+rows_of_run-push rows table from part old new at_least before grown =
+    grown
+    ∙ ap (λ (front : List (List Cell)). front ++ rows (record { table = table; part = part }))
+    before
+    ∙ sym (rows_of_run-step rows table from part at_least)
 
 -- the value of a view's partition is what it makes of the values of its left and right source
 pub value_within-view : (desc : DescOf) (accepted : List DeliveryOf) (depth : ℕ) (key : Key)

@@ -1,4 +1,4 @@
-use Rattle.std.proofs.Common.{◌∙◌, [], refl, sym, ap, arith}
+use Rattle.std.proofs.Common.{[], refl, sym, ap, arith}
 use Rattle.table_desc.specs.Tables.{TableOf}
 use Rattle.table_desc.specs.KindValues.{Filter, Group, Join}
 use Rattle.view_meaning.specs.Values.{value_within}
@@ -45,7 +45,6 @@ push_value-returns-in_ok-right-in-Join-clause-ok t c =
 
 pub source_rows-loop-part-preserved : goal.source_rows-loop-part-preserved
 source_rows-loop-part-preserved t c =
-    let rows = value_within c.args.depth c.args.desc.now c.args.accepted.now in
-    let more = rows_of_run-push rows c.args.src.table c.source_parts-read.result.first
-    c.loop-part.part (omega arith) in
-    rw c.loop-part.invariant at c.in_ok-push_value.ensures.ok ∙ sym more
+    rows_of_run-push (value_within c.args.depth c.args.desc.now c.args.accepted.now)
+    c.args.src.table c.source_parts-read.result.first c.loop-part.part c.loop-part.rows
+    c.push_value.new.rows (omega arith) c.loop-part.invariant c.in_ok-push_value.ensures.ok
