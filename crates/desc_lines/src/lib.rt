@@ -27,6 +27,3 @@ pub use parts::{WrittenAgg, WrittenColumn, WrittenCond, WrittenPair, WrittenSour
 pub use reading::read_line;
 pub use words::{begins_comment, is_go, is_skipped, is_word, words_of};
 pub use writing::push_line;
-
-#[cfg(test)]
-mod tests;
