@@ -7,22 +7,25 @@ use depot_cell::{Cell, Memory};
 use feed_csv::read_rows;
 use std::alloc::Global;
 use std::test::Fail;
-use table_desc::{DRow, Draft, ServedDesc};
+use table_desc::{AcceptedDesc, DRow, Draft};
 
-/// The table `r` of the feed `f`, with the columns `t:int`, `s:text` and `n:int`, of which the
+/// The feed of a line, its table `r` with the columns `t:int`, `s:text` and `n:int`, of which the
 /// first is the time, and a view over it.
-fn described(alloc: Global) -> Result<ServedDesc, Memory> {
-    let mut draft = Draft::new(alloc);
-    draft.add_line(alloc, b"feed f")?;
-    draft.add_line(
-        alloc,
-        b"raw r feed f width 10 time t cols t:int s:text n:int",
-    )?;
-    draft.add_line(
-        alloc,
-        b"view v width 10 filter r 0 0 where n > 1 keep t s n",
-    )?;
-    Ok(draft.into_served())
+fn described(alloc: Global, feed: &str) -> Result<AcceptedDesc, Fail> {
+    let draft = Draft::new(alloc)
+        .with_line(alloc, feed.as_bytes())?
+        .with_line(
+            alloc,
+            b"raw r feed f width 10 time t cols t:int s:text n:int",
+        )?
+        .with_line(
+            alloc,
+            b"view v width 10 filter r 0 0 where n > 1 keep t s n",
+        )?;
+    match draft.into_read() {
+        Ok(accepted) => Ok(accepted),
+        Err(bad) => Err(Fail::new(bad.cause.text())),
+    }
 }
 
 /// Rows as a text: of each its table, the number of its record and its cells, with a `|` after each
@@ -38,12 +41,16 @@ fn rows_text(alloc: Global, rows: &[DRow]) -> Result<Vec<u8>, Memory> {
     Ok(text)
 }
 
-/// The rows of a body, as a text, or `None` if it is refused.
-fn body_text(alloc: Global, body: &[u8]) -> Result<Option<Vec<u8>>, Memory>
+const FEED: &str = "feed f";
+
+const HEADED: &str = "feed f header";
+
+/// The rows of a body of this feed, as a text, or `None` if it is refused.
+fn body_text(alloc: Global, feed: &str, body: &[u8]) -> Result<Option<Vec<u8>>, Fail>
     requires { length body.now ≤ 16_777_216 }
 {
-    let served = described(alloc)?;
-    match read_rows(alloc, &served, 0, body)? {
+    let accepted = described(alloc, feed)?;
+    match read_rows(alloc, &accepted, 0, body)? {
         Some(rows) => Ok(Some(rows_text(alloc, &rows)?)),
         None => Ok(None),
     }
@@ -60,7 +67,7 @@ fn bodies_give_their_rows(rt: HostRuntime) -> Result<(), Fail> {
         ),
     ] {
         assert!(rt; body.len() <= 16_777_216);
-        let text = body_text(rt.alloc(), body.as_bytes())?.ok_or("rows")?;
+        let text = body_text(rt.alloc(), FEED, body.as_bytes())?.ok_or("rows")?;
         assert!(rt; text.as_slice() == want.as_bytes(), "of {body:?}");
     }
     Ok(())
@@ -80,9 +87,34 @@ fn a_record_that_is_no_row_refuses_the_body(rt: HostRuntime) -> Result<(), Fail>
     ] {
         assert!(rt; body.len() <= 16_777_216);
         assert!(rt;
-            body_text(rt.alloc(), body.as_bytes())?.is_none(),
+            body_text(rt.alloc(), FEED, body.as_bytes())?.is_none(),
             "of {body:?}"
         );
     }
+    Ok(())
+}
+
+/// A body with a header, and its rows. A byte order mark is dropped before the header is.
+static HEADS: [(&str, &str); 5] = [
+    ("", ""),
+    ("table,t,s,n\nr,3,a,5\n", "0|1|3|a|5| "),
+    ("r,x\nr,3,a,5\n", "0|1|3|a|5| "),
+    ("\u{feff}table,t,s,n\nr,3,a,5\n", "0|1|3|a|5| "),
+    ("r,3,a,5\n", ""),
+];
+
+#[test]
+fn a_header_is_passed_over(rt: HostRuntime) -> Result<(), Fail> {
+    for &(body, want) in &HEADS {
+        assert!(rt; body.len() <= 16_777_216);
+        let text = body_text(rt.alloc(), HEADED, body.as_bytes())?.ok_or("rows")?;
+        assert!(rt; text.as_slice() == want.as_bytes(), "of {body:?}");
+    }
+    Ok(())
+}
+
+#[test]
+fn without_header_the_first_record_is_a_row(rt: HostRuntime) -> Result<(), Fail> {
+    assert!(rt; body_text(rt.alloc(), FEED, b"table,t,s,n\nr,3,a,5\n")?.is_none());
     Ok(())
 }
