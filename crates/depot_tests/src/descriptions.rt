@@ -122,7 +122,10 @@ fn a_name_may_be_taken(rt: HostRuntime) -> Result<(), Fail> {
         "view v width 10 filter r 0 0 where n = 1 keep k k",
         "view v width 10 group r 0 0 by k agg count as k",
     ] {
-        assert!(rt; is_bad(rt.alloc(), line, DescCause::DoubleName)?, "at {line}");
+        assert!(rt;
+            is_bad(rt.alloc(), line, DescCause::DoubleName)?,
+            "at {line}"
+        );
     }
     Ok(())
 }
@@ -235,10 +238,7 @@ fn a_line_may_declare_too_much(rt: HostRuntime) -> Result<(), Fail> {
 #[test]
 fn the_first_cause_is_told(rt: HostRuntime) -> Result<(), Fail> {
     for &(cause, line) in &[
-        (
-            DescCause::BadLine,
-            "view r-1 width 10 group r 0 0 by k agg",
-        ),
+        (DescCause::BadLine, "view r-1 width 10 group r 0 0 by k agg"),
         (
             DescCause::BadName,
             "raw r feed f width 10 time at cols at:int x-y:int",
@@ -356,11 +356,16 @@ fn are_views(alloc: Global) -> Result<bool, Memory> {
         return Ok(false);
     };
     let feed = find_feed(&accepted.desc, b"f");
-    match (find_table(&accepted.desc, b"r"), find_table(&accepted.desc, b"v")) {
-        (Some(raw), Some(view)) => Ok(feed == Some(1)
-            && has_shape(accepted.table(raw), 10, 2)
-            && has_shape(accepted.table(view), 20, 2)
-            && is_filter(accepted.table(view))),
+    match (
+        find_table(&accepted.desc, b"r"),
+        find_table(&accepted.desc, b"v"),
+    ) {
+        (Some(raw), Some(view)) => Ok(
+            feed == Some(1)
+                && has_shape(accepted.table(raw), 10, 2)
+                && has_shape(accepted.table(view), 20, 2)
+                && is_filter(accepted.table(view)),
+        ),
         _ => Ok(false),
     }
 }

@@ -11,6 +11,8 @@ mod cells;
 #[cfg(test)]
 mod descriptions;
 #[cfg(test)]
+mod lines;
+#[cfg(test)]
 mod meaning;
 #[cfg(test)]
 mod operations;
