@@ -1,7 +1,7 @@
 -- A reading that serves is accepted: `IsAccepted-reading`. Each line asks for what fits the
 -- description, so each step does, and so does the journal.
 use Rattle.std.proofs.Common.{◌≡◌, ℕ, zero, suc, ◌<◌, ◌^◌, List, [], ◌∷◌, length}
-use Rattle.std.proofs.Common.{Bool, true, false, refl, sym, ap, ◌∙◌, subst, inl, inr, arith}
+use Rattle.std.proofs.Common.{Bool, true, false, refl, subst, inl, inr, arith}
 use Rattle.std.specs.Prelude.{Option, Some, None, Result, Ok, Err, All, ⊤, if◌then◌else◌, codes}
 use Rattle.std.specs.Prelude.{◌&&◌}
 use Rattle.std.specs.Str.{bytes_eq}
@@ -38,7 +38,7 @@ use Rattle.depot_cli.specs.Reading.{NextLine, NoLine, Unreadable, Line, NextBody
 use Rattle.depot_cli.specs.Reading.{OpeningEnd, Go, Broken, Serving, Session, Step, Ends}
 use Rattle.depot_cli.specs.Reading.{Does, body_due, body_step, line_due, line_step}
 use Rattle.depot_cli.specs.Reading.{load_of, next_body, next_line, opening, order_step}
-use Rattle.depot_cli.specs.Reading.{script_at, script_after, session, session_at, session_from}
+use Rattle.depot_cli.specs.Reading.{script_at, session, session_at, session_from}
 use Rattle.depot_cli.specs.Reading.{step_of}
 use Rattle.depot_cli.specs.SerialJournal.{journal_after, serial}
 use Rattle.depot_cli.specs.Acceptance.{HasAcceptedReadings, IsAccepted}

@@ -30,7 +30,7 @@ use crate::script::work::Work;
 use depot_cell::{Memory, Rows};
 use partition_map::{Parts, parts_of_span};
 use std::alloc::Global;
-use table_desc::{Delivery, Key, Kind, AcceptedDesc, Table};
+use table_desc::{AcceptedDesc, Delivery, Key, Kind, Table};
 use view_meaning::{Item, Loaded, Mark, PinItem, plain_value, plain_version};
 
 /// Does what an item asks for, and makes the text of the reply. `line` is the item's line, from 1.
@@ -91,7 +91,11 @@ fn load(
 }
 
 /// Computes all that is not settled, and tells the place.
-fn drain_text(alloc: Global, served: &AcceptedDesc, journal: &mut Journal) -> Result<Vec<u8>, Memory>
+fn drain_text(
+    alloc: Global,
+    served: &AcceptedDesc,
+    journal: &mut Journal,
+) -> Result<Vec<u8>, Memory>
     requires kept { IsKept served.now.desc journal.old }
     ensures exact { IfOk result (λ text.
         text.items ≡ drained_text (length (drained served.now.desc journal.old.entries))) }

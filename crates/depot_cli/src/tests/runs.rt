@@ -22,7 +22,11 @@ static NO_GO: [(&[u8], u64); 4] = [
 /// Inputs with a description that is not accepted, their first bad lines, and why these are bad.
 static BAD: [(&[u8], u64, DescCause); 3] = [
     (b"feed by\ngo\nmarks\n", 1, DescCause::BadName),
-    (b"# none\nfeed f\nfeed f\nfeed by\ngo\n", 3, DescCause::DoubleName),
+    (
+        b"# none\nfeed f\nfeed f\nfeed by\ngo\n",
+        3,
+        DescCause::DoubleName,
+    ),
     (b"feed f\n\nfeed g \xff\ngo\n", 3, DescCause::BadLine),
 ];
 
