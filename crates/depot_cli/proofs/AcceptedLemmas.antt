@@ -11,15 +11,15 @@ use Rattle.std.proofs.lemmas.List.Quantifiers.{position-Some}
 use Rattle.std.proofs.lemmas.Option.{cond_some, option_and_then_some}
 use Rattle.depot_cell.specs.Numbers.{number_of}
 use Rattle.desc_lines.specs.Words.{begins_comment, is_empty, words}
-use Rattle.table_desc.specs.declared.table.Feed.{Feed}
-use Rattle.table_desc.specs.declared.delivery.DRow.{DRow}
-use Rattle.table_desc.specs.declared.reading.fault.BadLine.{BadLine}
-use Rattle.table_desc.specs.Descriptions.{DescOf}
-use Rattle.table_desc.specs.Accepted.{IsAccepted as IsAcceptedDesc}
+use Rattle.desc_types.specs.declared.table.Feed.{Feed}
+use Rattle.desc_types.specs.declared.delivery.DRow.{DRow}
+use Rattle.table_desc.specs.declared.fault.BadLine.{BadLine}
+use Rattle.desc_types.specs.Descriptions.{DescOf}
+use Rattle.desc_types.specs.Accepted.{IsAccepted as IsAcceptedDesc}
 use Rattle.table_desc.specs.Drafts.{drafted}
-use Rattle.table_desc.specs.Lookups.{find_feed}
+use Rattle.desc_types.specs.Lookups.{find_feed}
 use Rattle.table_desc.proofs.DraftLemmas.{drafted-accepted}
-use Rattle.table_desc.proofs.ServedLemmas.{accepted-served}
+use Rattle.desc_types.proofs.ServedLemmas.{accepted-served}
 use Rattle.view_meaning.specs.declared.journal.Entry.{Entry}
 use Rattle.view_meaning.specs.declared.journal.Entry.TheVariants as entry
 use Rattle.view_meaning.specs.declared.request.Item.{Item}

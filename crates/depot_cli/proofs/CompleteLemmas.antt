@@ -6,7 +6,7 @@ use Rattle.std.specs.Io.KnownBytes.{Appends}
 use Rattle.depot_io.specs.Causes.{Rose}
 use Rattle.depot_io.specs.Puts.{HasRoomFor}
 use Rattle.depot_cli.specs.declared.run.status.Status.TheVariants as status
-use Rattle.table_desc.specs.declared.reading.fault.DescCause.{DescCause}
+use Rattle.desc_causes.specs.declared.cause.DescCause.{DescCause}
 use Rattle.depot_cli.specs.Reading.{Script, Unopened, Misdescribed, Serving, Session, SessionEnd}
 use Rattle.depot_cli.specs.Reading.{Ended, Stopped}
 use Rattle.depot_cli.specs.Replies.{has_refused}

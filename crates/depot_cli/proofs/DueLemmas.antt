@@ -3,7 +3,7 @@
 use Rattle.std.proofs.Common.{◌≡◌, ℕ, suc, zero, ◌≤◌, List, length, refl, arith}
 use Rattle.std.specs.Prelude.{Option, All}
 use Rattle.std.proofs.lemmas.List.Elements.{All-cons, All-nil, All-weaker}
-use Rattle.table_desc.specs.Descriptions.{DescOf}
+use Rattle.desc_types.specs.Descriptions.{DescOf}
 use Rattle.depot_cli.specs.Reading.{Session, Step, Ends, Does, session_at, session_from, step_of}
 use Rattle.depot_cli.specs.ScriptCalls.{IsLeftOf, IsUndone}
 use Rattle.depot_cli.proofs.LineLemmas.{IsLeftOf-le, step_of-leaves}

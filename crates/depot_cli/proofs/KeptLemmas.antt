@@ -14,12 +14,12 @@ use Rattle.std.proofs.lemmas.Bool.{cases_Bool}
 use Rattle.std.proofs.Math.Seq.{take-append_seam}
 use Rattle.std.proofs.lemmas.Bool.Decides.{nat_tests}
 use Rattle.depot_cell.specs.declared.cell.Cell.{Cell}
-use Rattle.table_desc.specs.declared.table.Key.{Key}
-use Rattle.table_desc.specs.Deliveries.{DeliveryOf}
-use Rattle.table_desc.specs.Descriptions.{DescOf}
+use Rattle.desc_types.specs.declared.table.Key.{Key}
+use Rattle.desc_types.specs.Deliveries.{DeliveryOf}
+use Rattle.desc_types.specs.Descriptions.{DescOf}
 use Rattle.view_meaning.specs.declared.journal.Entry.{Entry}
 use Rattle.view_meaning.specs.declared.journal.Entry.TheVariants as entry
-use Rattle.table_desc.specs.Sources.{HasEarlierSources}
+use Rattle.desc_types.specs.Sources.{HasEarlierSources}
 use Rattle.view_meaning.specs.Partitions.{sources_of}
 use Rattle.view_meaning.specs.Journal.{accepted, is_repeat}
 use Rattle.view_meaning.specs.Values.{value}
@@ -37,7 +37,7 @@ use Rattle.view_meaning.proofs.LegalLemmas.{IsLegal-push, last_place-le}
 use Rattle.view_meaning.proofs.SettledLemmas.{is_stale-current}
 use Rattle.depot_cli.specs.declared.book.version.Version.{Version}
 use Rattle.depot_cli.specs.KeptJournals.{DrainsSome}
-use Rattle.table_desc.specs.Keys.{key_cmp}
+use Rattle.desc_types.specs.Keys.{key_cmp}
 use Rattle.depot_cli.specs.KeptJournals.{IsKept, JournalOf, latest, latest_in, number_in}
 use Rattle.depot_cli.specs.KeptJournals.{version_made}
 

@@ -8,7 +8,7 @@ use Rattle.std.proofs.lemmas.Bool.{ltb-false}
 use Rattle.depot_io.specs.Lines.{LIMIT, Takes, line_take, span}
 use Rattle.depot_cli.specs.declared.run.status.InputEnd.TheVariants as why
 use Rattle.desc_lines.specs.Words.{is_empty}
-use Rattle.table_desc.specs.Descriptions.{DescOf}
+use Rattle.desc_types.specs.Descriptions.{DescOf}
 use Rattle.depot_cli.specs.declared.script.order.Head.{Head}
 use Rattle.depot_cli.specs.declared.script.order.Order.{Order}
 use Rattle.depot_cli.specs.declared.script.order.Order.TheVariants as order

@@ -6,13 +6,13 @@ use Rattle.std.specs.List.{range_with_len}
 use Rattle.std.proofs.lemmas.List.FromFn.{length-map-range_with_len, map-range_with_len_more}
 use Rattle.std.proofs.lemmas.Grind.{flat_map-append}
 use Rattle.depot_cell.specs.declared.cell.Cell.{Cell}
-use Rattle.table_desc.specs.declared.table.Key.{Key}
-use Rattle.table_desc.specs.Deliveries.{DeliveryOf}
-use Rattle.table_desc.specs.Descriptions.{DescOf}
-use Rattle.table_desc.specs.Tables.{TableOf}
+use Rattle.desc_types.specs.declared.table.Key.{Key}
+use Rattle.desc_types.specs.Deliveries.{DeliveryOf}
+use Rattle.desc_types.specs.Descriptions.{DescOf}
+use Rattle.desc_types.specs.Tables.{TableOf}
 use Rattle.view_meaning.specs.declared.journal.Entry.{Entry}
 use Rattle.view_meaning.specs.declared.request.Item.{Item}
-use Rattle.table_desc.specs.Sources.{width_of}
+use Rattle.desc_types.specs.Sources.{width_of}
 use Rattle.partition_map.specs.Partitions.{is_met, parts_met}
 use Rattle.view_meaning.specs.Journal.{accepted, is_repeat}
 use Rattle.view_meaning.specs.Shown.{ShownPart, shown, shown_part}

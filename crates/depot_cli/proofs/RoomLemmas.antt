@@ -2,7 +2,7 @@
 use Rattle.std.proofs.Common.{◌≡◌, ℕ, ◌+◌, ◌≤◌, List, [], ◌∷◌, ◌++◌, length, ap, sym, ◌∙◌, subst}
 use Rattle.std.proofs.Common.{arith, length-append}
 use Rattle.std.specs.Prelude.{Option, Err}
-use Rattle.table_desc.specs.Descriptions.{DescOf}
+use Rattle.desc_types.specs.Descriptions.{DescOf}
 use Rattle.depot_io.specs.Puts.{HasRoomFor, room_after}
 use Rattle.depot_io.proofs.RoomLemmas.{HasRoomFor-append, HasRoomFor-le, room_after-append}
 use Rattle.depot_cli.specs.declared.run.status.Status.{Status}

@@ -6,10 +6,11 @@ use Rattle.depot_cli.specs.declared.script.ScriptFault.{ScriptFault}
 use Rattle.depot_cli.specs.declared.script.ScriptFault.TheVariants.{Input, ReadFault, Memory}
 use Rattle.depot_cli.specs.declared.run.status.Status.{Status}
 use Rattle.depot_cli.specs.declared.run.status.Status.TheVariants as status
-use Rattle.table_desc.specs.declared.reading.fault.BadLine.{BadLine}
-use Rattle.table_desc.specs.Descriptions.{DescOf}
-use Rattle.table_desc.specs.Drafts.{DraftOf, drafted, read_of}
-use Rattle.table_desc.specs.declared.accepted.AcceptedDesc.{AcceptedDesc}
+use Rattle.table_desc.specs.declared.fault.BadLine.{BadLine}
+use Rattle.desc_types.specs.Descriptions.{DescOf}
+use Rattle.table_desc.specs.Described.{read_of}
+use Rattle.table_desc.specs.Drafts.{DraftOf, drafted}
+use Rattle.desc_types.specs.declared.accepted.AcceptedDesc.{AcceptedDesc}
 use Rattle.depot_cli.specs.Reading.{OpeningEnd, Go, Broken, Script, Unopened, Misdescribed, Serving}
 use Rattle.depot_cli.specs.Reading.{opening, reading, script_at, script_after, session}
 use Rattle.depot_cli.specs.ScriptCalls.{IsBeforeGo, IsLeftOf, IsOpening, status_of_fault}

@@ -1,10 +1,10 @@
 -- The journal that items make is legal.
 use Rattle.std.proofs.Common.{List, [], ◌∷◌, inl, inr}
 use Rattle.std.proofs.lemmas.Bool.{cases_Bool}
-use Rattle.table_desc.specs.Descriptions.{DescOf}
+use Rattle.desc_types.specs.Descriptions.{DescOf}
 use Rattle.view_meaning.specs.declared.journal.Entry.{Entry}
 use Rattle.view_meaning.specs.declared.journal.Entry.TheVariants as entry
-use Rattle.table_desc.specs.Sources.{HasEarlierSources}
+use Rattle.desc_types.specs.Sources.{HasEarlierSources}
 use Rattle.view_meaning.specs.Journal.{is_repeat}
 use Rattle.view_meaning.specs.LegalJournals.{IsLegal}
 use Rattle.view_meaning.proofs.LegalLemmas.{IsLegal-push}

@@ -1,8 +1,8 @@
 -- What a reading that serves has, so that the laws of descriptions and journals speak of its run.
 use Rattle.std.specs.Prelude.{ℕ, ◌≡◌, List, []}
-use Rattle.table_desc.specs.Descriptions.{DescOf}
-use Rattle.table_desc.specs.Accepted.{IsAccepted as IsAcceptedDesc}
-use Rattle.table_desc.specs.Served.{IsServed}
+use Rattle.desc_types.specs.Descriptions.{DescOf}
+use Rattle.desc_types.specs.Accepted.{IsAccepted as IsAcceptedDesc}
+use Rattle.desc_types.specs.Served.{IsServed}
 use Rattle.view_meaning.specs.Journal.{FitsJournal}
 use Rattle.depot_cli.specs.Reading.{Serving, Session, reading}
 use Rattle.depot_cli.specs.SerialJournal.{serial}

@@ -1,6 +1,6 @@
 -- The entries of a journal, from its deliveries and the order of its steps, which are kept apart.
 use Rattle.std.specs.Prelude.{ℕ, suc, ◌≡◌, ◌≤◌, List, [], ◌∷◌, length}
-use Rattle.table_desc.specs.Deliveries.{DeliveryOf}
+use Rattle.desc_types.specs.Deliveries.{DeliveryOf}
 use Rattle.view_meaning.specs.declared.journal.Entry.{Entry}
 use Rattle.view_meaning.specs.declared.journal.Entry.TheVariants as entry
 use Rattle.depot_cli.specs.declared.book.step.Step.{Step}

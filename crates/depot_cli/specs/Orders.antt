@@ -5,16 +5,16 @@ use Rattle.std.specs.Prelude.{nat_le, if◌then◌else◌, length, codes, slice_
 use Rattle.std.specs.Str.{bytes_eq}
 use Rattle.depot_cell.specs.Numbers.{number_of}
 use Rattle.desc_lines.specs.Words.{words, begins_comment, is_empty}
-use Rattle.table_desc.specs.Descriptions.{DescOf}
+use Rattle.desc_types.specs.Descriptions.{DescOf}
 use Rattle.view_meaning.specs.declared.request.Item.{Item}
 use Rattle.view_meaning.specs.declared.request.Mark.TheVariants as mark
-use Rattle.table_desc.specs.Sources.{width_of}
+use Rattle.desc_types.specs.Sources.{width_of}
 use Rattle.partition_map.specs.Time.{END}
 use Rattle.partition_map.specs.Partitions.{parts_met}
 use Rattle.depot_cli.specs.declared.script.order.Head.{Head}
 use Rattle.depot_cli.specs.declared.script.order.Order.{Order}
 use Rattle.depot_cli.specs.declared.script.order.Order.TheVariants as order
-use Rattle.table_desc.specs.Lookups.{find_feed, find_table}
+use Rattle.desc_types.specs.Lookups.{find_feed, find_table}
 
 -- the most bytes of a body
 abbrev pub BODY_LIMIT : ℕ

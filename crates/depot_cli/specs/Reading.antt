@@ -4,9 +4,9 @@ use Rattle.std.specs.Prelude.{nat_le, if◌then◌else◌, length, take, drop, m
 use Rattle.std.specs.Io.BufRead.{first_line}
 use Rattle.depot_io.specs.Lines.{LIMIT, line_take, span}
 use Rattle.desc_lines.specs.Words.{words, is_empty, is_go}
-use Rattle.table_desc.specs.declared.delivery.DRow.{DRow}
-use Rattle.table_desc.specs.declared.reading.fault.BadLine.{BadLine}
-use Rattle.table_desc.specs.Descriptions.{DescOf}
+use Rattle.desc_types.specs.declared.delivery.DRow.{DRow}
+use Rattle.table_desc.specs.declared.fault.BadLine.{BadLine}
+use Rattle.desc_types.specs.Descriptions.{DescOf}
 use Rattle.table_desc.specs.Drafts.{drafted}
 use Rattle.depot_cli.specs.declared.script.order.Head.{Head}
 use Rattle.depot_cli.specs.declared.script.order.Order.{Order}

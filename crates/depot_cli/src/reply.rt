@@ -11,7 +11,7 @@ ghost use Rattle.view_meaning.specs.Shown.{shown, shown_part};
 ghost use Rattle.view_meaning.specs.Versions.{is_raw_kind};
 ghost use Rattle.view_meaning.specs.Drains.{drained};
 ghost use Rattle.std.specs.List.{range_with_len};
-ghost use Rattle.table_desc.specs.Kinds.{kind_of};
+ghost use Rattle.desc_types.specs.Kinds.{kind_of};
 ghost use Rattle.depot_cli.specs.declared.script.work.Work.TheVariants as work;
 ghost use Rattle.depot_cli.specs.ScriptCalls.{IsAnswerable};
 ghost use Rattle.depot_cli.specs.KeptJournals.{DrainsSome, IsCutShort, IsKept};
@@ -28,9 +28,9 @@ use crate::reply::texts::{
 };
 use crate::script::work::Work;
 use depot_cell::{Memory, Rows};
+use desc_types::{AcceptedDesc, Delivery, Key, Kind, Table};
 use partition_map::{Parts, parts_of_span};
 use std::alloc::Global;
-use table_desc::{AcceptedDesc, Delivery, Key, Kind, Table};
 use view_meaning::{Item, Loaded, Mark, PinItem, plain_value, plain_version};
 
 /// Does what an item asks for, and makes the text of the reply. `line` is the item's line, from 1.

@@ -15,8 +15,9 @@ use crate::run::session::{serve, status_of};
 use crate::run::status::Status;
 use crate::script::{ScriptFault, read_opening};
 use depot_io::{LineReader, Sink, Source};
+use desc_types::AcceptedDesc;
 use std::alloc::Global;
-use table_desc::{AcceptedDesc, Draft};
+use table_desc::Draft;
 
 /// Runs a command: `words` are those after the folder. The one command is `trial`. It reads a
 /// description up to its `go` line and then session lines off the source, and puts the replies

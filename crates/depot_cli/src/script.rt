@@ -21,9 +21,10 @@ use crate::script::work::Work;
 use depot_cell::Memory;
 use depot_io::{Line, LineFault, LineReader, Source};
 use desc_lines::{is_go, words_of};
+use desc_types::{AcceptedDesc, Delivery};
 use feed_csv::read_rows;
 use std::alloc::Global;
-use table_desc::{AcceptedDesc, Delivery, Draft};
+use table_desc::Draft;
 
 /// Why a script was not read on.
 #[derive(Clone, Copy, Debug, PartialEq, Eq, Drop)]

@@ -4,10 +4,11 @@ ghost use Rattle.std.specs.Prelude.{◌≤◌, length};
 
 use crate::texts::{put_cell, put_row};
 use depot_cell::{Cell, Memory};
+use desc_types::{AcceptedDesc, DRow};
 use feed_csv::read_rows;
 use std::alloc::Global;
 use std::test::Fail;
-use table_desc::{AcceptedDesc, DRow, Draft};
+use table_desc::Draft;
 
 /// The feed of a line, its table `r` with the columns `t:int`, `s:text` and `n:int`, of which the
 /// first is the time, and a view over it.

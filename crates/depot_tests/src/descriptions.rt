@@ -3,12 +3,11 @@
 ghost use Rattle.std.specs.Prelude.{◌<◌, length};
 
 use depot_cell::{Cell, Memory, Ty};
+use desc_causes::DescCause;
+use desc_types::{Kind, Table, field_cell, find_feed, find_table};
 use std::alloc::Global;
 use std::test::Fail;
-use table_desc::{
-    BadLine, DescCause, DescFault, Draft, Kind, Table, described_is_accepted, field_cell,
-    find_feed, find_table, read_desc, texts_are_drafted,
-};
+use table_desc::{BadLine, DescFault, Draft, described_is_accepted, read_desc, texts_are_drafted};
 
 /// Whether an empty field is an empty text.
 fn is_empty_text(alloc: Global) -> Result<bool, Memory> {
@@ -355,11 +354,8 @@ fn are_views(alloc: Global) -> Result<bool, Memory> {
     let Ok(accepted) = draft_of(alloc, VIEWS)?.into_read() else {
         return Ok(false);
     };
-    let feed = find_feed(&accepted.desc, b"f");
-    match (
-        find_table(&accepted.desc, b"r"),
-        find_table(&accepted.desc, b"v"),
-    ) {
+    let feed = find_feed(&accepted, b"f");
+    match (find_table(&accepted, b"r"), find_table(&accepted, b"v")) {
         (Some(raw), Some(view)) => Ok(
             feed == Some(1)
                 && has_shape(accepted.table(raw), 10, 2)

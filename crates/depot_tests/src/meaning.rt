@@ -1,16 +1,16 @@
 //! Values, versions and partitions, worked by hand.
 
 ghost use Rattle.std.specs.Prelude.{◌≡◌, ◌≤◌, ◌∷◌, ◌++◌, [], IfOk, OnOk, length};
-ghost use Rattle.table_desc.specs.Kinds.{kind_of};
+ghost use Rattle.desc_types.specs.Kinds.{kind_of};
 ghost use Rattle.partition_map.specs.Time.{IsWidth};
-ghost use Rattle.table_desc.specs.Sources.{HasEarlierSources, HasFittingSources, kind_sources};
+ghost use Rattle.desc_types.specs.Sources.{HasEarlierSources, HasFittingSources, kind_sources};
 
 use crate::texts::rows_text;
 use depot_cell::{Cell, Memory, Op, Row, Str};
+use desc_types::{Cond, DRow, Delivery, Desc, END, Key, Kind, Span, Src, Table, Width};
 use partition_map::{Parts, parts_of_span};
 use std::alloc::Global;
 use std::test::Fail;
-use table_desc::{Cond, DRow, Delivery, Desc, END, Key, Kind, Span, Src, Table, Width};
 use view_meaning::{plain_value, plain_version, reached_keys};
 
 /// The span of just a partition's own ticks.

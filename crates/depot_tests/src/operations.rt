@@ -5,9 +5,9 @@
 //! others texts. Rows have blanks between them, and the parts of a case have a `/`.
 
 use depot_cell::{Row, Str, Ty, cell_text, read_cell};
+use desc_types::{Agg, DRow, Delivery, Desc, Fun, Key, Kind, Pair, Span, Src, Table, Width};
 use std::alloc::Global;
 use std::test::Fail;
-use table_desc::{Agg, DRow, Delivery, Desc, Fun, Key, Kind, Pair, Span, Src, Table, Width};
 use view_meaning::plain_value;
 
 /// Groups: the key columns, the aggregates with their columns (`s` for a sum, `c` for a count, `l`

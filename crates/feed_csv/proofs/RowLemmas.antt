@@ -11,14 +11,14 @@ use Rattle.std.proofs.lemmas.Option.{same_Some}
 use Rattle.depot_cell.specs.declared.cell.Cell.{Cell}
 use Rattle.depot_cell.specs.Cells.{IsCell, ty_of}
 use Rattle.depot_cell.proofs.ReadingLemmas.{gives_cells}
-use Rattle.table_desc.specs.declared.table.Column.{Column}
-use Rattle.table_desc.specs.declared.delivery.DRow.{DRow}
-use Rattle.table_desc.specs.Descriptions.{DescOf}
-use Rattle.table_desc.specs.Tables.{TableOf}
-use Rattle.table_desc.specs.KindValues.{KindOf, Raw, Filter, Group, Join}
+use Rattle.desc_types.specs.declared.table.Column.{Column}
+use Rattle.desc_types.specs.declared.delivery.DRow.{DRow}
+use Rattle.desc_types.specs.Descriptions.{DescOf}
+use Rattle.desc_types.specs.Tables.{TableOf}
+use Rattle.desc_types.specs.KindValues.{KindOf, Raw, Filter, Group, Join}
 use Rattle.partition_map.specs.Time.{END}
 use Rattle.feed_csv.proofs.FrontLemmas.{with_first-some}
-use Rattle.table_desc.proofs.ListLemmas.{option_map-some}
+use Rattle.desc_types.proofs.ListLemmas.{option_map-some}
 use Rattle.view_meaning.specs.Journal.{FitsRow, IsRawOf, IsRowOf}
 use Rattle.feed_csv.specs.Bodies.{cells_of, find_raw_table, is_in_time, is_raw_of, records_of}
 use Rattle.feed_csv.specs.Bodies.{row_of, rows_from, table_cells, timed, without_header}

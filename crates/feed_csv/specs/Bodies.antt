@@ -11,12 +11,12 @@ use Rattle.csv.specs.declared.reader.Reader.{Reader}
 use Rattle.csv.specs.declared.reader.Trim.TheVariants as trim
 use Rattle.depot_cell.specs.declared.cell.Cell.{Cell}
 use Rattle.depot_cell.specs.Reading.{cell_of}
-use Rattle.table_desc.specs.declared.table.Column.{Column}
-use Rattle.table_desc.specs.declared.table.Feed.{Feed}
-use Rattle.table_desc.specs.declared.delivery.DRow.{DRow}
-use Rattle.table_desc.specs.Descriptions.{DescOf}
-use Rattle.table_desc.specs.Tables.{TableOf}
-use Rattle.table_desc.specs.KindValues.{KindOf, Raw, Filter, Group, Join}
+use Rattle.desc_types.specs.declared.table.Column.{Column}
+use Rattle.desc_types.specs.declared.table.Feed.{Feed}
+use Rattle.desc_types.specs.declared.delivery.DRow.{DRow}
+use Rattle.desc_types.specs.Descriptions.{DescOf}
+use Rattle.desc_types.specs.Tables.{TableOf}
+use Rattle.desc_types.specs.KindValues.{KindOf, Raw, Filter, Group, Join}
 use Rattle.partition_map.specs.Time.{END}
 use Rattle.view_meaning.specs.Journal.{row_tick}
 use Rattle.feed_csv.specs.Front.{with_first}

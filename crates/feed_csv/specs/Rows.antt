@@ -1,8 +1,8 @@
 -- What the rows of a body have.
 use Rattle.std.specs.Prelude.{ℕ, ◌≡◌, ◌<◌, ◌≤◌, List, Some, All, length}
 use Rattle.std.specs.List.{AllAdjacentBelow}
-use Rattle.table_desc.specs.declared.delivery.DRow.{DRow}
-use Rattle.table_desc.specs.Descriptions.{DescOf}
+use Rattle.desc_types.specs.declared.delivery.DRow.{DRow}
+use Rattle.desc_types.specs.Descriptions.{DescOf}
 use Rattle.view_meaning.specs.Journal.{FitsRow}
 use Rattle.feed_csv.specs.Bodies.{rows_of}
 

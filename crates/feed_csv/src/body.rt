@@ -10,7 +10,7 @@ ghost use Rattle.std.specs.Str.{bytes_eq};
 ghost use Rattle.csv.specs.Reading.{reader_source};
 ghost use Rattle.csv.specs.Records.{fields_of};
 ghost use Rattle.depot_cell.specs.declared.cell.Cell.TheVariants.{Int};
-ghost use Rattle.table_desc.specs.Kinds.{kind_of};
+ghost use Rattle.desc_types.specs.Kinds.{kind_of};
 ghost use Rattle.view_meaning.specs.Journal.{row_tick, tick_of};
 ghost use Rattle.feed_csv.specs.Rows.{RowsFit};
 ghost use Rattle.feed_csv.specs.Bodies.{BeginsBody, cells_of, is_in_time, is_raw_of};
@@ -19,8 +19,8 @@ ghost use Rattle.feed_csv.specs.Bodies.{find_raw_table, has_header, row_of, rows
 use csv::{ByteRecord, Reader, ReaderBuilder};
 use depot_cell::{Cell, Memory, Row};
 use desc_lines::is_word;
+use desc_types::{AcceptedDesc, Column, DRow, END, Kind, Table, field_cell};
 use std::alloc::Global;
-use table_desc::{AcceptedDesc, Column, DRow, END, Kind, Table, field_cell};
 
 /// The rows of a body of up to 16,777,216 bytes, or `None` if some record is no row. A header may
 /// hold anything. The vector keeps no spare room.

@@ -1,64 +1,47 @@
 -- What a text declares is accepted: `described-accepted`.
-use Rattle.std.proofs.Common.{◌≡◌, ◌∙◌, ℕ, ◌≤◌, ◌+◌, List, [], ◌∷◌, Option, Some, None}
+use Rattle.std.proofs.Common.{◌≡◌, ◌∙◌, ℕ, ◌+◌, List, [], ◌∷◌, Option, Some, None}
 use Rattle.std.proofs.Common.{Bool, true, false, not, Result, Ok, Err, length, map, refl}
 use Rattle.std.proofs.Common.{subst, arith, length-append}
-use Rattle.std.specs.Prelude.{is_some, nat_lt, position}
+use Rattle.std.specs.Prelude.{is_some}
 use Rattle.std.specs.Prelude.{if◌then◌else◌}
-use Rattle.std.specs.List.{list_any, position_or_len}
-use Rattle.std.specs.Str.{bytes_eq, is_utf8}
-use Rattle.std.proofs.lemmas.Bool.{ltb-false}
+use Rattle.std.specs.Str.{bytes_eq}
 use Rattle.std.proofs.lemmas.Bool.Decides.{nat_tests}
 use Rattle.std.proofs.lemmas.List.{map-append}
 use Rattle.std.proofs.lemmas.List.Elements.{All-nil}
-use Rattle.std.proofs.lemmas.List.Folds.{list_any_none}
-use Rattle.std.proofs.lemmas.List.Sums.{fails_before_first}
 use Rattle.std.proofs.lemmas.Option.{slice_get_within}
 use Rattle.desc_lines.specs.Lines.{line_of}
 use Rattle.desc_lines.specs.Names.{is_name}
 use Rattle.desc_lines.specs.Texts.{lines_of}
-use Rattle.desc_lines.specs.Whole.{IsWhole}
 use Rattle.desc_lines.specs.Words.{is_skipped, words}
 use Rattle.desc_lines.specs.Written.{WrittenLineOf, WrittenTableOf}
 use Rattle.desc_lines.specs.Written.{FeedLine, TableLine}
-use Rattle.desc_lines.proofs.LineLemmas.{line_of-some}
-use Rattle.table_desc.specs.declared.reading.fault.DescCause.{DescCause}
-use Rattle.table_desc.specs.declared.reading.fault.DescCause.TheVariants as cause
-use Rattle.table_desc.specs.declared.table.Feed.{Feed}
-use Rattle.table_desc.specs.Descriptions.{DescOf}
-use Rattle.table_desc.specs.Tables.{TableOf}
-use Rattle.table_desc.specs.Lookups.{find_table}
-use Rattle.table_desc.specs.Ticks.{read_width}
-use Rattle.table_desc.specs.Causes.{are_different, cause_of, feed_tests, gives_bad_name}
-use Rattle.table_desc.specs.Causes.{written_names}
+use Rattle.desc_causes.specs.declared.cause.DescCause.{DescCause}
+use Rattle.desc_causes.specs.declared.cause.DescCause.TheVariants as cause
+use Rattle.desc_types.specs.declared.table.Feed.{Feed}
+use Rattle.desc_types.specs.Descriptions.{DescOf}
+use Rattle.desc_types.specs.Tables.{TableOf}
+use Rattle.desc_types.specs.Lookups.{find_table}
+use Rattle.desc_causes.specs.Ticks.{read_width}
+use Rattle.desc_types.specs.Columns.{are_different}
+use Rattle.desc_causes.specs.Causes.{cause_of, feed_tests, gives_bad_name}
+use Rattle.desc_causes.specs.Causes.{written_names}
 use Rattle.table_desc.specs.Declarations.{declared_table, with_declared}
 use Rattle.table_desc.specs.Declarations.{with_feed, with_table}
-use Rattle.table_desc.specs.Described.{described, no_desc, unless_bad, then_lines}
+use Rattle.table_desc.specs.SaidLines.{IsSaidKind, IsSaidLine}
+use Rattle.table_desc.specs.Described.{described, is_line_text, no_desc}
+use Rattle.table_desc.specs.Described.{then_lines, unless_bad}
 use Rattle.table_desc.specs.Described.{with_line, with_lines, with_written}
-use Rattle.table_desc.specs.Accepted.{IsAccepted, IsTable}
-use Rattle.table_desc.proofs.BoolLemmas.{not-false, or-none}
-use Rattle.table_desc.proofs.ListLemmas.{each_place-push, list_any-map}
+use Rattle.desc_types.specs.Accepted.{IsAccepted, IsTable}
+use Rattle.desc_types.proofs.BoolLemmas.{not-false, or-none}
+use Rattle.desc_types.proofs.ListLemmas.{each_place-push, list_any-map}
 use Rattle.table_desc.proofs.GrownLemmas.{Grows-feed, Grows-table, IsTable-more}
 use Rattle.table_desc.proofs.NamesLemmas.{AreNames-push}
 use Rattle.table_desc.proofs.FineLemmas.{AreFalse-none, IsFew-fine, IsFine, IsFine-none}
 use Rattle.table_desc.proofs.FineLemmas.{is_name-table}
 use Rattle.table_desc.proofs.FilledLemmas.{IsFilled-fine, IsFineKind}
+use Rattle.table_desc.proofs.LookupLemmas.{position-none}
+use Rattle.table_desc.proofs.SaidLemmas.{IsSaidLine-read}
 use Rattle.table_desc.proofs.SourceLemmas.{IsWidth-read, sources-fit}
-
--- where no place was found, no item passes the test
-position-none : {X : Type 0} (test : X → Bool) (xs : List X) → is_some (position test xs) ≡ false
-    → list_any test xs ≡ false
-position-none test xs none = list_any_none test xs (λ place default within.
-    fails_before_first test xs place default (omega (
-      arith,
-      within,
-      past (nat_lt (position_or_len test xs) (length xs)) refl none,
-    )))
-  where
-    past : (found : Bool) → nat_lt (position_or_len test xs) (length xs) ≡ found
-        → is_some (if found then Some (position_or_len test xs) else None) ≡ false
-        → length xs ≤ position_or_len test xs
-    past true is none = absurd cc
-    past false is none = ltb-false (position_or_len test xs) (length xs) is
 
 -- one more feed
 IsAccepted-feed : (desc : DescOf) (name : List ℕ) (header : Bool) → IsAccepted desc
@@ -100,12 +83,12 @@ IsFineKind-fine desc table fine =
 
 -- the table that a line declares
 IsTable-read : (desc : DescOf) (table : WrittenTableOf) (width : Option ℕ) → IsAccepted desc
-    → IsWhole (TableLine table) → IsFine desc table → read_width table.width ≡ width
+    → IsSaidKind table.kind → IsFine desc table → read_width table.width ≡ width
     → IsTable desc (length desc.tables) (declared_table desc table)
-IsTable-read desc table None accepted whole fine read =
+IsTable-read desc table None accepted said fine read =
     absurd (let bad = rw read at fine.width in cc)
-IsTable-read desc table (Some width) accepted whole fine read =
-    let filled = IsFilled-fine desc table.kind accepted whole (IsFineKind-fine desc table fine) in
+IsTable-read desc table (Some width) accepted said fine read =
+    let filled = IsFilled-fine desc table.kind accepted said (IsFineKind-fine desc table fine) in
     rw read (record {
       some = filled.some;
       few = filled.few;
@@ -118,9 +101,9 @@ IsTable-read desc table (Some width) accepted whole fine read =
 
 -- one more table
 IsAccepted-table : (desc : DescOf) (table : WrittenTableOf) → IsAccepted desc
-    → IsWhole (TableLine table) → cause_of desc (TableLine table) ≡ None
+    → IsSaidKind table.kind → cause_of desc (TableLine table) ≡ None
     → IsAccepted (with_table desc (declared_table desc table))
-IsAccepted-table desc table accepted whole none =
+IsAccepted-table desc table accepted said none =
     let fine = IsFine-none desc table none in
     let made = declared_table desc table in
     let more = with_table desc made in
@@ -144,44 +127,45 @@ IsAccepted-table desc table accepted whole none =
           (accepted.each number other there))
           (IsTable-more (length desc.tables) desc more (length desc.tables) made
           (Grows-table desc made) (omega arith)
-          (IsTable-read desc table (read_width table.width) accepted whole fine refl));
+          (IsTable-read desc table (read_width table.width) accepted said fine refl));
     }
 
 -- what a line declares keeps a description accepted
-pub IsAccepted-declared : (desc : DescOf) (line : WrittenLineOf) → IsAccepted desc → IsWhole line
-    → cause_of desc line ≡ None → IsAccepted (with_declared desc line)
-IsAccepted-declared desc (FeedLine name header) accepted whole none =
+pub IsAccepted-declared : (desc : DescOf) (line : WrittenLineOf) → IsAccepted desc
+    → IsSaidLine line → cause_of desc line ≡ None → IsAccepted (with_declared desc line)
+IsAccepted-declared desc (FeedLine name header) accepted said none =
     IsAccepted-feed desc name header accepted none
-IsAccepted-declared desc (TableLine table) accepted whole none =
-    IsAccepted-table desc table accepted whole none
+IsAccepted-declared desc (TableLine table) accepted said none =
+    IsAccepted-table desc table accepted said none
 
 -- so does a line that may be bad
-IsAccepted-written : (desc new : DescOf) (each : List (List ℕ)) (line : Option WrittenLineOf)
-    → IsAccepted desc → line_of each ≡ line → with_written desc line ≡ Ok new → IsAccepted new
-IsAccepted-written desc new each None accepted is made = absurd cc
-IsAccepted-written desc new each (Some line) accepted is made =
+IsAccepted-written : (desc new : DescOf) (text : List ℕ) (line : Option WrittenLineOf)
+    → IsAccepted desc → is_line_text text ≡ true → line_of (words text) ≡ line
+    → with_written desc line ≡ Ok new → IsAccepted new
+IsAccepted-written desc new text None accepted is_text is made = absurd cc
+IsAccepted-written desc new text (Some line) accepted is_text is made =
     by_cause (cause_of desc line) refl made
   where
     by_cause : (cause : Option DescCause) → cause_of desc line ≡ cause
         → unless_bad desc line cause ≡ Ok new → IsAccepted new
     by_cause None fine made =
         subst IsAccepted (let same : with_declared desc line ≡ new = cc in same)
-        (IsAccepted-declared desc line accepted (line_of-some each line is).whole fine)
+        (IsAccepted-declared desc line accepted (IsSaidLine-read text line is_text is) fine)
     by_cause (Some cause) fine made = absurd cc
 
 -- and a line of a text
-pub IsAccepted-line : (desc new : DescOf) (line : List ℕ) → IsAccepted desc
+IsAccepted-line : (desc new : DescOf) (line : List ℕ) → IsAccepted desc
     → with_line desc line ≡ Ok new → IsAccepted new
 IsAccepted-line desc new line accepted made =
-    by_tests (is_skipped (words line)) (is_utf8 line) made
+    by_tests (is_skipped (words line)) (is_line_text line) refl made
   where
-    by_tests : (skipped utf8 : Bool) → (if skipped then Ok desc
-        else if utf8 then with_written desc (line_of (words line))
+    by_tests : (skipped text : Bool) → is_line_text line ≡ text → (if skipped then Ok desc
+        else if text then with_written desc (line_of (words line))
         else Err cause.BadLine) ≡ Ok new → IsAccepted new
-    by_tests true utf8 made = subst IsAccepted (let same : desc ≡ new = cc in same) accepted
-    by_tests false true made =
-        IsAccepted-written desc new (words line) (line_of (words line)) accepted refl made
-    by_tests false false made = absurd cc
+    by_tests true text is made = subst IsAccepted (let same : desc ≡ new = cc in same) accepted
+    by_tests false true is made =
+        IsAccepted-written desc new line (line_of (words line)) accepted is refl made
+    by_tests false false is made = absurd cc
 
 -- and the lines of a text
 pub IsAccepted-lines : (number : ℕ) (desc new : DescOf) (lines : List (List ℕ)) → IsAccepted desc

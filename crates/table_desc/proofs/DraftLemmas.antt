@@ -2,10 +2,10 @@
 -- is accepted, `drafted-accepted`.
 use Rattle.std.proofs.Common.{◌≡◌, ◌∙◌, ℕ, ◌+◌, List, [], ◌∷◌, Result, Ok, Err, fold, refl, sym}
 use Rattle.desc_lines.specs.Texts.{lines_of}
-use Rattle.table_desc.specs.declared.reading.fault.BadLine.{BadLine}
-use Rattle.table_desc.specs.declared.reading.fault.DescCause.{DescCause}
-use Rattle.table_desc.specs.Descriptions.{DescOf}
-use Rattle.table_desc.specs.Accepted.{IsAccepted}
+use Rattle.table_desc.specs.declared.fault.BadLine.{BadLine}
+use Rattle.desc_causes.specs.declared.cause.DescCause.{DescCause}
+use Rattle.desc_types.specs.Descriptions.{DescOf}
+use Rattle.desc_types.specs.Accepted.{IsAccepted}
 use Rattle.table_desc.specs.Described.{no_desc, then_lines, with_line, with_lines}
 use Rattle.table_desc.specs.Drafts.{DraftsTexts, drafted, with_more}
 use Rattle.table_desc.proofs.AcceptedLemmas.{IsAccepted-lines, IsAccepted-none}

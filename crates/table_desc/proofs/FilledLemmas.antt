@@ -8,29 +8,32 @@ use Rattle.std.specs.Str.{bytes_eq}
 use Rattle.std.proofs.Math.Seq.{drop-append_seam, take-append_seam}
 use Rattle.std.proofs.lemmas.Bool.{ltb-false}
 use Rattle.std.proofs.lemmas.List.{length-map, map-append}
-use Rattle.std.proofs.lemmas.List.Elements.{All-append, All-nil, All-weaker}
+use Rattle.std.proofs.lemmas.List.Elements.{All-append, All-map, All-nil, All-weaker}
 use Rattle.std.proofs.lemmas.Option.{slice_get_within}
 use Rattle.desc_lines.specs.Names.{is_name}
 use Rattle.desc_lines.specs.Whole.{IsWholeKind}
 use Rattle.desc_lines.specs.Written.{WrittenAggOf, WrittenColumnOf, WrittenCondOf, WrittenKindOf}
 use Rattle.desc_lines.specs.Written.{WrittenPairOf, WrittenSourceOf}
 use Rattle.desc_lines.specs.Written.{Raw, Filter, Group, Join}
-use Rattle.table_desc.specs.declared.table.Column.{Column}
-use Rattle.table_desc.specs.declared.table.Feed.{Feed}
-use Rattle.table_desc.specs.Descriptions.{DescOf}
-use Rattle.table_desc.specs.Tables.{TableOf}
-use Rattle.table_desc.specs.Lookups.{find_feed, read_type, source_columns}
-use Rattle.table_desc.specs.Causes.{are_different, gives_bad_name, has_bad_type}
-use Rattle.table_desc.specs.Causes.{is_absent, is_text, is_text_sum, lacks}
-use Rattle.table_desc.specs.Causes.{lacks_column, lacks_feed, lacks_some, lacks_source, time_type}
-use Rattle.table_desc.specs.Causes.{written_names}
-use Rattle.table_desc.specs.Declarations.{FillingOf, agg_column, agg_type, column_number}
+use Rattle.desc_types.specs.declared.table.Column.{Column}
+use Rattle.desc_types.specs.declared.table.Feed.{Feed}
+use Rattle.desc_types.specs.Descriptions.{DescOf}
+use Rattle.desc_types.specs.Tables.{TableOf}
+use Rattle.desc_types.specs.Lookups.{find_feed, read_type, source_columns}
+use Rattle.desc_types.specs.Columns.{are_different}
+use Rattle.desc_causes.specs.Causes.{gives_bad_name, has_bad_type}
+use Rattle.desc_causes.specs.Causes.{is_absent, is_text, is_text_sum, lacks}
+use Rattle.desc_causes.specs.Causes.{lacks_column, lacks_feed, lacks_some, lacks_source, time_type}
+use Rattle.desc_causes.specs.Causes.{written_names}
+use Rattle.table_desc.specs.Declarations.{FillingOf, agg_column, column_number}
+use Rattle.desc_types.specs.Columns.{agg_type}
 use Rattle.table_desc.specs.Declarations.{declared_agg, declared_column, declared_filling, declared_pair, found}
-use Rattle.table_desc.specs.Declarations.{kept_columns}
-use Rattle.table_desc.specs.Accepted.{IsAccepted, IsGroup, IsKind, NamesColumn}
-use Rattle.table_desc.specs.Accepted.{column_names, column_types}
-use Rattle.table_desc.proofs.BoolLemmas.{or-none}
-use Rattle.table_desc.proofs.ListLemmas.{list_any-not}
+use Rattle.desc_types.specs.Columns.{kept_columns}
+use Rattle.table_desc.specs.SaidLines.{IsSaidKind}
+use Rattle.desc_types.specs.Accepted.{IsAccepted, IsGroup, IsKind, IsNamed, NamesColumn}
+use Rattle.desc_types.specs.Accepted.{column_names, column_types}
+use Rattle.desc_types.proofs.BoolLemmas.{or-none}
+use Rattle.desc_types.proofs.ListLemmas.{list_any-not}
 use Rattle.table_desc.proofs.LookupLemmas.{IsEarlier, IsPlace-found, position-within}
 use Rattle.table_desc.proofs.LookupLemmas.{source_columns-found, table_columns-found}
 use Rattle.table_desc.proofs.KeptLemmas.{column_numbers-within, kept-each, kept-names, length-kept}
@@ -98,39 +101,40 @@ IsFilled-raw desc feed time columns whole fine =
     let typed = or-none (list_any (λ (column : WrittenColumnOf). is_none (read_type column.ty))
     columns) (is_text (time_type columns time)) fine.typed in
     let many = length-map columns declared_column in
+    let named = list_any-not (λ (column : WrittenColumnOf). is_name column.name) columns fine.named in
     record {
       some = omega (arith, many, whole.some);
       few = omega (arith, many, fine.few.columns);
-      named = declared-named (length desc.tables) columns
-          (list_any-not (λ (column : WrittenColumnOf). is_name column.name) columns fine.named);
+      named = declared-named (length desc.tables) columns named;
       different = ap are_different (declared-names columns) ∙ fine.different;
       kind = record {
         declared = feed-within desc feed fine.feed;
         int = time-int columns time fine.column typed.0 typed.1;
+        named = All-map IsNamed declared_column columns named;
       };
     }
 
 IsFilled-filter : (desc : DescOf) (source : WrittenSourceOf) (conds : List WrittenCondOf)
-    (keep : List (List ℕ)) → IsAccepted desc → IsWholeKind (Filter source conds keep)
+    (keep : List (List ℕ)) → IsAccepted desc → IsSaidKind (Filter source conds keep)
     → IsFineKind desc (Filter source conds keep)
     → IsFilled desc (declared_filling desc (Filter source conds keep))
-IsFilled-filter desc source conds keep accepted whole fine =
+IsFilled-filter desc source conds keep accepted said fine =
     let columns = source_columns desc source.table in
     let there = or-none (list_any (λ (cond : WrittenCondOf). lacks columns cond.column) conds)
     (list_any (lacks columns) keep) fine.column in
     let earlier = IsEarlier-there desc source (or-none (is_absent desc source) false fine.source).0 in
     let many = length-kept columns keep there.1 in
-    let made = length-conds columns conds there.0 fine.typed in
+    let made = length-conds columns conds said.literals there.0 fine.typed in
     record {
-      some = omega (arith, many, whole.1);
+      some = omega (arith, many, said.whole.1);
       few = omega (arith, many, fine.few.columns);
       named = kept-each (λ (column : Column). NamesColumn (length desc.tables) column.name) columns
           (map (column_number columns) keep) (source-named desc source.table accepted);
       different = ap are_different (kept-names columns keep there.1) ∙ fine.different;
       kind = rw (table_columns-found desc source.table earlier) (record {
-        some = omega (arith, made, whole.0);
+        some = omega (arith, made, said.whole.0);
         few = omega (arith, made, ltb-false 8 (length conds) fine.few.parts);
-        each_cond = conds-fit columns conds there.0 fine.typed;
+        each_cond = conds-fit columns conds said.literals there.0 fine.typed;
         each_kept = column_numbers-within columns keep there.1;
         kept = refl;
       });
@@ -158,13 +162,14 @@ agg-types columns (agg ∷ aggs) =
 -- what fills a group over columns that there are
 IsGroup-fine : (columns : List Column) (keys : List (List ℕ)) (aggs : List WrittenAggOf)
     (source : WrittenSourceOf) → IsWholeKind (Group source keys aggs)
+    → All (λ (agg : WrittenAggOf). is_name agg.name ≡ true) aggs
     → list_any (lacks columns) keys ≡ false
     → list_any (λ (agg : WrittenAggOf). lacks_some columns agg.column) aggs ≡ false
     → list_any (is_text_sum columns) aggs ≡ false → nat_lt 4 (length keys) ≡ false
     → IsGroup columns (kept_columns columns (map (column_number columns) keys)
     ++ map (agg_column columns) aggs)
     (map (column_number columns) keys) (map (declared_agg columns) aggs)
-IsGroup-fine columns keys aggs source whole there over typed few =
+IsGroup-fine columns keys aggs source whole named there over typed few =
     let kept = kept_columns columns (map (column_number columns) keys) in
     let numbers = length-map keys (column_number columns) in
     let same = numbers ∙ sym (length-kept columns keys there) in
@@ -177,6 +182,8 @@ IsGroup-fine columns keys aggs source whole there over typed few =
       key_columns = rw same (take-append_seam kept (map (agg_column columns) aggs));
       agg_columns = rw same (ap column_types (drop-append_seam kept (map (agg_column columns) aggs))
           ∙ agg-types columns aggs);
+      named = rw (same, drop-append_seam kept (map (agg_column columns) aggs))
+          (All-map IsNamed (agg_column columns) aggs named);
     }
 
 IsFilled-group : (desc : DescOf) (source : WrittenSourceOf) (keys : List (List ℕ))
@@ -192,6 +199,7 @@ IsFilled-group desc source keys aggs accepted whole fine =
     let many = length-append kept (map (agg_column columns) aggs) in
     let keys_many = length-kept columns keys there.0 in
     let aggs_many = length-map aggs (agg_column columns) in
+    let named = list_any-not (λ (agg : WrittenAggOf). is_name agg.name) aggs fine.named in
     record {
       some = omega (arith, many, keys_many, whole.0.some);
       few = omega (arith, many, keys_many, aggs_many, fine.few.columns);
@@ -199,11 +207,11 @@ IsFilled-group desc source keys aggs accepted whole fine =
           kept (map (agg_column columns) aggs)
           (kept-each (λ (column : Column). NamesColumn (length desc.tables) column.name) columns
           (map (column_number columns) keys) (source-named desc source.table accepted))
-          (agg-named (length desc.tables) columns aggs
-          (list_any-not (λ (agg : WrittenAggOf). is_name agg.name) aggs fine.named));
+          (agg-named (length desc.tables) columns aggs named);
       different = ap are_different (group-names columns keys aggs there.0) ∙ fine.different;
       kind = rw (table_columns-found desc source.table earlier)
-          (IsGroup-fine columns keys aggs source whole there.0 there.1 fine.typed fine.few.parts);
+          (IsGroup-fine columns keys aggs source whole named there.0 there.1 fine.typed
+          fine.few.parts);
     }
 
 IsFilled-join : (desc : DescOf) (left right : WrittenSourceOf) (on : List WrittenPairOf)
@@ -247,13 +255,13 @@ IsFilled-join desc left right on accepted whole fine =
     }
 
 -- so is each kind
-pub IsFilled-fine : (desc : DescOf) (kind : WrittenKindOf) → IsAccepted desc → IsWholeKind kind
+pub IsFilled-fine : (desc : DescOf) (kind : WrittenKindOf) → IsAccepted desc → IsSaidKind kind
     → IsFineKind desc kind → IsFilled desc (declared_filling desc kind)
-IsFilled-fine desc (Raw feed time columns) accepted whole fine =
-    IsFilled-raw desc feed time columns whole fine
-IsFilled-fine desc (Filter source conds keep) accepted whole fine =
-    IsFilled-filter desc source conds keep accepted whole fine
-IsFilled-fine desc (Group source keys aggs) accepted whole fine =
-    IsFilled-group desc source keys aggs accepted whole fine
-IsFilled-fine desc (Join left right on) accepted whole fine =
-    IsFilled-join desc left right on accepted whole fine
+IsFilled-fine desc (Raw feed time columns) accepted said fine =
+    IsFilled-raw desc feed time columns said.whole fine
+IsFilled-fine desc (Filter source conds keep) accepted said fine =
+    IsFilled-filter desc source conds keep accepted said fine
+IsFilled-fine desc (Group source keys aggs) accepted said fine =
+    IsFilled-group desc source keys aggs accepted said.whole fine
+IsFilled-fine desc (Join left right on) accepted said fine =
+    IsFilled-join desc left right on accepted said.whole fine

@@ -11,20 +11,20 @@ use Rattle.desc_lines.specs.Names.{is_name}
 use Rattle.desc_lines.specs.Written.{WrittenAggOf, WrittenColumnOf, WrittenKindOf}
 use Rattle.desc_lines.specs.Written.{WrittenSourceOf, WrittenTableOf}
 use Rattle.desc_lines.specs.Written.{Raw, Filter, Group, Join, TableLine}
-use Rattle.table_desc.specs.declared.reading.fault.DescCause.{DescCause}
-use Rattle.table_desc.specs.declared.table.Column.{Column}
-use Rattle.table_desc.specs.Descriptions.{DescOf}
-use Rattle.table_desc.specs.Tables.{TableOf}
-use Rattle.table_desc.specs.Lookups.{columns_of, find_table, source_columns}
-use Rattle.table_desc.specs.Ticks.{read_width}
-use Rattle.table_desc.specs.Causes.{cause_of, count_columns, first_cause, gives_bad_name}
-use Rattle.table_desc.specs.Causes.{has_bad_name, has_bad_span, has_bad_type, has_bad_width}
-use Rattle.table_desc.specs.Causes.{has_double_name, has_many_parts, lacks_column, lacks_feed}
-use Rattle.table_desc.specs.Causes.{lacks_source, makes_too_many, sources, table_tests}
+use Rattle.desc_causes.specs.declared.cause.DescCause.{DescCause}
+use Rattle.desc_types.specs.declared.table.Column.{Column}
+use Rattle.desc_types.specs.Descriptions.{DescOf}
+use Rattle.desc_types.specs.Tables.{TableOf}
+use Rattle.desc_types.specs.Lookups.{columns_of, find_table, source_columns}
+use Rattle.desc_causes.specs.Ticks.{read_width}
+use Rattle.desc_causes.specs.Causes.{cause_of, count_columns, first_cause, gives_bad_name}
+use Rattle.desc_causes.specs.Causes.{has_bad_name, has_bad_span, has_bad_type, has_bad_width}
+use Rattle.desc_causes.specs.Causes.{has_double_name, has_many_parts, lacks_column, lacks_feed}
+use Rattle.desc_causes.specs.Causes.{lacks_source, makes_too_many, sources, table_tests}
 use Rattle.table_desc.specs.Declarations.{IsReady, IsReadySource, LeavesRoom}
-use Rattle.table_desc.specs.Accepted.{IsAccepted, NamesColumn}
-use Rattle.table_desc.proofs.BoolLemmas.{or-none, not-false}
-use Rattle.table_desc.proofs.ListLemmas.{list_any-not}
+use Rattle.desc_types.specs.Accepted.{IsAccepted, NamesColumn}
+use Rattle.desc_types.proofs.BoolLemmas.{or-none, not-false}
+use Rattle.desc_types.proofs.ListLemmas.{list_any-not}
 
 -- no test of a list holds
 abbrev pub AreFalse : List (Bool × DescCause) → Type 0

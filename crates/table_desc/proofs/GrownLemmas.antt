@@ -3,17 +3,17 @@ use Rattle.std.proofs.Common.{◌≡◌, ℕ, ◌<◌, ◌≤◌, List, [], ◌�
 use Rattle.std.proofs.Common.{refl, sym, ap, subst, arith}
 use Rattle.std.specs.Prelude.{All, slice_get}
 use Rattle.std.proofs.lemmas.List.{length-append}
-use Rattle.table_desc.specs.declared.table.Column.{Column}
-use Rattle.table_desc.specs.declared.table.Feed.{Feed}
-use Rattle.table_desc.specs.declared.view.Src.{Src}
-use Rattle.table_desc.specs.Descriptions.{DescOf}
-use Rattle.table_desc.specs.Tables.{TableOf}
-use Rattle.table_desc.specs.KindValues.{KindOf, Raw, Filter, Group, Join}
-use Rattle.table_desc.specs.Sources.{kind_sources, width_of}
-use Rattle.table_desc.specs.Lookups.{columns_of, table_columns}
+use Rattle.desc_types.specs.declared.table.Column.{Column}
+use Rattle.desc_types.specs.declared.table.Feed.{Feed}
+use Rattle.desc_types.specs.declared.view.Src.{Src}
+use Rattle.desc_types.specs.Descriptions.{DescOf}
+use Rattle.desc_types.specs.Tables.{TableOf}
+use Rattle.desc_types.specs.KindValues.{KindOf, Raw, Filter, Group, Join}
+use Rattle.desc_types.specs.Sources.{kind_sources, width_of}
+use Rattle.desc_types.specs.Lookups.{columns_of, table_columns}
 use Rattle.table_desc.specs.Declarations.{with_feed, with_table}
-use Rattle.table_desc.specs.Accepted.{IsFilter, IsGroup, IsJoin, IsKind, IsSource, IsTable}
-use Rattle.table_desc.proofs.ListLemmas.{slice_get-push}
+use Rattle.desc_types.specs.Accepted.{IsFilter, IsGroup, IsJoin, IsKind, IsSource, IsTable}
+use Rattle.desc_types.proofs.ListLemmas.{slice_get-push}
 
 -- a description that has the feeds of another one, and its tables below a number
 pub record Grows (tables : ℕ) (desc more : DescOf) : Type 0 where
@@ -42,6 +42,7 @@ IsSource-more : (tables : ℕ) (desc more : DescOf) (number width : ℕ) (source
 IsSource-more tables desc more number width source grows few is = record {
   earlier = is.earlier;
   fits = rw (ap width_of (grows.same source.table (omega (arith, is.earlier)))) is.fits;
+  said = is.said;
 }
 
 -- the columns of a source stay
@@ -59,6 +60,7 @@ IsKind-more : (tables : ℕ) (desc more : DescOf) (number width : ℕ) (columns 
 IsKind-more tables desc more number width columns (Raw feed time) grows few sources is = record {
   declared = omega (arith, grows.feeds, is.declared);
   int = is.int;
+  named = is.named;
 }
 IsKind-more tables desc more number width columns (Filter source conds keep) grows few sources is =
     subst (λ (from : List Column). IsFilter from columns conds keep)

@@ -6,10 +6,10 @@ use Rattle.std.specs.Str.{bytes_eq}
 use Rattle.std.specs.List.{list_any}
 use Rattle.std.proofs.lemmas.List.{map-append, length-map}
 use Rattle.std.proofs.lemmas.List.Elements.{All-append, All-map, All-weaker}
-use Rattle.table_desc.specs.declared.table.Column.{Column}
-use Rattle.table_desc.specs.Causes.{are_different}
-use Rattle.table_desc.specs.Declarations.{joined_columns, prefixed}
-use Rattle.table_desc.specs.Accepted.{NamesColumn, column_names}
+use Rattle.desc_types.specs.declared.table.Column.{Column}
+use Rattle.desc_types.specs.Columns.{are_different}
+use Rattle.desc_types.specs.Columns.{joined_columns, prefixed}
+use Rattle.desc_types.specs.Accepted.{NamesColumn, column_names}
 use Rattle.table_desc.proofs.NamesLemmas.{are_different-append}
 
 -- names under one prefix are alike if they were

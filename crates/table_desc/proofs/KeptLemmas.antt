@@ -7,12 +7,13 @@ use Rattle.std.specs.Str.{bytes_eq}
 use Rattle.std.proofs.lemmas.List.{append-nil, length-map, take_more}
 use Rattle.std.proofs.lemmas.List.Elements.{All-cons, All-map, All-nil, All-weaker, filter_map-append}
 use Rattle.std.proofs.lemmas.Option.{get_or_from_slice_get, slice_get_within}
-use Rattle.table_desc.specs.declared.table.Column.{Column}
-use Rattle.table_desc.specs.Causes.{lacks}
-use Rattle.table_desc.specs.Declarations.{column_number, found, kept_columns}
-use Rattle.table_desc.specs.Accepted.{column_names}
-use Rattle.table_desc.proofs.BoolLemmas.{or-none}
-use Rattle.table_desc.proofs.ListLemmas.{list_any-none}
+use Rattle.desc_types.specs.declared.table.Column.{Column}
+use Rattle.desc_causes.specs.Causes.{lacks}
+use Rattle.table_desc.specs.Declarations.{column_number, found}
+use Rattle.desc_types.specs.Columns.{kept_columns}
+use Rattle.desc_types.specs.Accepted.{column_names}
+use Rattle.desc_types.proofs.BoolLemmas.{or-none}
+use Rattle.desc_types.proofs.ListLemmas.{list_any-none}
 use Rattle.table_desc.proofs.LookupLemmas.{IsColumn, IsPlace-found, bytes-same, position-within}
 
 -- what is so of each item is so of one that is there

@@ -1,20 +1,22 @@
 -- What was found by name: `IsPlace-found`, and the sources of a line.
 use Rattle.std.proofs.Common.{◌≡◌, ℕ, ◌<◌, ◌≤◌, List, Option, Some, None, Bool, true, false}
 use Rattle.std.proofs.Common.{◌⊎◌, length, get_or, refl, arith, inl, inr, rules, tests}
-use Rattle.std.specs.Prelude.{position, slice_get, is_none, nat_lt}
-use Rattle.std.specs.List.{position_or_len}
+use Rattle.std.specs.Prelude.{position, slice_get, is_none, is_some, nat_lt, if◌then◌else◌}
+use Rattle.std.specs.List.{list_any, position_or_len}
 use Rattle.std.specs.Str.{bytes_eq}
-use Rattle.std.proofs.lemmas.Bool.{ltb-true}
+use Rattle.std.proofs.lemmas.Bool.{ltb-false, ltb-true}
+use Rattle.std.proofs.lemmas.List.Folds.{list_any_none}
 use Rattle.std.proofs.lemmas.List.Quantifiers.{position-Some}
+use Rattle.std.proofs.lemmas.List.Sums.{fails_before_first}
 use Rattle.std.proofs.lemmas.Option.{cond_some, slice_get_cases}
 use Rattle.std.proofs.lemmas.Slice.Eq.{bytes_eq-Decides}
 use Rattle.partition_map.specs.declared.time.Span.{Span}
 use Rattle.partition_map.specs.Partitions.{is_fitting, SpanFits}
-use Rattle.table_desc.specs.declared.table.Column.{Column}
-use Rattle.table_desc.specs.Descriptions.{DescOf}
-use Rattle.table_desc.specs.Tables.{TableOf}
-use Rattle.table_desc.specs.Sources.{table_width}
-use Rattle.table_desc.specs.Lookups.{find_table, source_columns, source_width, table_columns}
+use Rattle.desc_types.specs.declared.table.Column.{Column}
+use Rattle.desc_types.specs.Descriptions.{DescOf}
+use Rattle.desc_types.specs.Tables.{TableOf}
+use Rattle.desc_types.specs.Sources.{table_width}
+use Rattle.desc_types.specs.Lookups.{find_table, source_columns, source_width, table_columns}
 use Rattle.table_desc.specs.Declarations.{found}
 
 -- what is found is there
@@ -24,6 +26,22 @@ position-within test xs place found =
     let parts = cond_some (nat_lt (position_or_len test xs) (length xs))
     (position_or_len test xs) place found in
     omega (arith, ltb-true (position_or_len test xs) (length xs) parts.0, parts.1)
+
+-- where no place was found, no item passes the test
+pub position-none : {X : Type 0} (test : X → Bool) (xs : List X) → is_some (position test xs) ≡ false
+    → list_any test xs ≡ false
+position-none test xs none = list_any_none test xs (λ place default within.
+    fails_before_first test xs place default (omega (
+      arith,
+      within,
+      past (nat_lt (position_or_len test xs) (length xs)) refl none,
+    )))
+  where
+    past : (found : Bool) → nat_lt (position_or_len test xs) (length xs) ≡ found
+        → is_some (if found then Some (position_or_len test xs) else None) ≡ false
+        → length xs ≤ position_or_len test xs
+    past true is none = absurd cc
+    past false is none = ltb-false (position_or_len test xs) (length xs) is
 
 -- the first item that passes a test
 pub record IsPlace {X : Type 0} (test : X → Bool) (xs : List X) : Type 0 where

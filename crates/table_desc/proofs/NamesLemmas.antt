@@ -7,12 +7,12 @@ use Rattle.std.specs.List.{list_any}
 use Rattle.std.proofs.lemmas.List.Elements.{All-push}
 use Rattle.std.proofs.lemmas.List.Folds.{list_any-append}
 use Rattle.desc_lines.specs.Names.{is_name}
-use Rattle.table_desc.specs.Causes.{are_different}
-use Rattle.table_desc.specs.Accepted.{AreNames}
-use Rattle.table_desc.proofs.BoolLemmas.{or-none, or-false, and-both, not-true}
+use Rattle.desc_types.specs.Columns.{are_different}
+use Rattle.desc_types.specs.Accepted.{AreNames}
+use Rattle.desc_types.proofs.BoolLemmas.{or-none, or-false, and-both, not-true}
 
 -- the parts of `are_different`
-different-parts : (word : List ℕ) (others : List (List ℕ)) → are_different (word ∷ others) ≡ true
+pub different-parts : (word : List ℕ) (others : List (List ℕ)) → are_different (word ∷ others) ≡ true
     → (list_any (bytes_eq word) others ≡ false) × (are_different others ≡ true)
 different-parts word others different =
     let parts = and-both (not (list_any (bytes_eq word) others)) (are_different others) different in

@@ -1,31 +1,54 @@
 -- The parts of a view that a line declares: conditions, aggregates and pairs.
-use Rattle.std.proofs.Common.{◌≡◌, ℕ, List, [], ◌∷◌, Option, Some, None, false}
-use Rattle.std.proofs.Common.{Result, Ok, Err, length, map, refl, ap}
-use Rattle.std.specs.Prelude.{All, filter_map, is_none}
+use Rattle.std.proofs.Common.{◌≡◌, ℕ, ℤ, List, [], ◌∷◌, Option, Some, None, Bool, true, false}
+use Rattle.std.proofs.Common.{Result, Ok, Err, length, map, nat_lt, refl, ap, subst}
+use Rattle.std.specs.Prelude.{All, filter_map, is_none, if◌then◌else◌}
 use Rattle.std.specs.List.{list_any, AllByRecursion}
 use Rattle.std.specs.Result.{result_ok}
+use Rattle.std.specs.Str.{is_utf8}
 use Rattle.std.proofs.lemmas.List.Elements.{All-cons, All-nil}
 use Rattle.depot_cell.specs.declared.cell.Cell.{Cell}
+use Rattle.depot_cell.specs.declared.cell.Cell.TheVariants.{Int, Text}
 use Rattle.depot_cell.specs.declared.cell.CellFault.{CellFault}
+use Rattle.depot_cell.specs.declared.cell.CellFault.TheVariants.{LongText, NotUtf8}
+use Rattle.depot_cell.specs.Numbers.{int_of}
 use Rattle.depot_cell.specs.declared.cell.Ty.{Ty}
 use Rattle.depot_cell.specs.declared.cell.Ty.TheVariants as ty
-use Rattle.depot_cell.specs.Reading.{cell_of}
+use Rattle.depot_cell.specs.Reading.{cell_of, int_cell}
 use Rattle.depot_cell.proofs.ReadingLemmas.{gives_cells}
 use Rattle.desc_lines.specs.declared.fun.Fun.{Fun}
 use Rattle.desc_lines.specs.declared.fun.Fun.TheVariants as fun
 use Rattle.desc_lines.specs.Whole.{IsWholeAgg, is_count}
 use Rattle.desc_lines.specs.Written.{WrittenAggOf, WrittenCondOf, WrittenPairOf}
-use Rattle.table_desc.specs.declared.table.Column.{Column}
-use Rattle.table_desc.specs.declared.view.Agg.{Agg}
-use Rattle.table_desc.specs.declared.view.Cond.{Cond}
-use Rattle.table_desc.specs.Causes.{has_odd_literal, have_two_types, is_odd_pair, is_text_sum}
-use Rattle.table_desc.specs.Causes.{lacks, lacks_side, lacks_some, sums_texts, type_over}
+use Rattle.desc_types.specs.declared.table.Column.{Column}
+use Rattle.desc_types.specs.declared.view.Agg.{Agg}
+use Rattle.desc_types.specs.declared.view.Cond.{Cond}
+use Rattle.desc_causes.specs.Causes.{has_odd_literal, have_two_types, is_odd_pair, is_text_sum}
+use Rattle.desc_causes.specs.Causes.{lacks, lacks_side, lacks_some, sums_texts, type_over}
 use Rattle.table_desc.specs.Declarations.{column_number, declared_agg, declared_cond}
 use Rattle.table_desc.specs.Declarations.{declared_pair, number_over}
-use Rattle.table_desc.specs.Accepted.{Computes, IsCond, IsPair, column_type}
-use Rattle.table_desc.proofs.BoolLemmas.{or-none}
+use Rattle.desc_types.specs.Accepted.{Computes, IsCond, IsLineWord, IsPair, IsSaid, column_type}
+use Rattle.desc_types.proofs.BoolLemmas.{or-none}
 use Rattle.table_desc.proofs.LookupLemmas.{IsColumn}
 use Rattle.table_desc.proofs.KeptLemmas.{IsColumn-lacks, column_number-within}
+
+-- a value that was read of a word of a line can be said by it
+IsSaid-read : (ty : Ty) (literal : List ℕ) (value : Cell) → IsLineWord literal
+    → cell_of ty literal ≡ Ok value → IsSaid value
+IsSaid-read ty.Int literal value word read = by_int (int_of literal) read
+  where
+    by_int : (number : Option ℤ) → int_cell number ≡ Ok value → IsSaid value
+    by_int None read = absurd cc
+    by_int (Some number) read =
+        subst IsSaid (let same : Int number ≡ value = cc in same) tt
+IsSaid-read ty.Text literal value word read =
+    by_tests (nat_lt 255 (length literal)) (is_utf8 literal) read
+  where
+    by_tests : (long utf8 : Bool) → (if long then Err LongText
+        else if utf8 then Ok (Text literal) else Err NotUtf8) ≡ Ok value → IsSaid value
+    by_tests true utf8 read = absurd cc
+    by_tests false false read = absurd cc
+    by_tests false true read =
+        subst IsSaid (let same : Text literal ≡ value = cc in same) word
 
 -- a condition that was made of a written one
 record IsMade (columns : List Column) (cond : WrittenCondOf) : Type 0 where
@@ -34,47 +57,54 @@ record IsMade (columns : List Column) (cond : WrittenCondOf) : Type 0 where
   fits : IsCond columns made
 
 IsMade-read : (columns : List Column) (cond : WrittenCondOf) (column : IsColumn columns cond.column)
-    (read : Result Cell CellFault) → cell_of column.item.ty cond.literal ≡ read
+    (read : Result Cell CellFault) → IsLineWord cond.literal
+    → cell_of column.item.ty cond.literal ≡ read
     → is_none (result_ok read) ≡ false → IsMade columns cond
-IsMade-read columns cond column (Ok value) is there = record {
+IsMade-read columns cond column (Ok value) word is there = record {
   made = record { column = column.place; op = cond.op; value = value };
   is = rw (column.found, column.there, is) refl;
-  fits = rw column.there (gives_cells column.item.ty cond.literal value is);
+  fits = record {
+    typed = rw column.there (gives_cells column.item.ty cond.literal value is);
+    said = IsSaid-read column.item.ty cond.literal value word is;
+  };
 }
-IsMade-read columns cond column (Err fault) is there = absurd cc
+IsMade-read columns cond column (Err fault) word is there = absurd cc
 
-IsMade-fine : (columns : List Column) (cond : WrittenCondOf) → lacks columns cond.column ≡ false
-    → has_odd_literal columns cond ≡ false → IsMade columns cond
-IsMade-fine columns cond there even =
+IsMade-fine : (columns : List Column) (cond : WrittenCondOf) → IsLineWord cond.literal
+    → lacks columns cond.column ≡ false → has_odd_literal columns cond ≡ false
+    → IsMade columns cond
+IsMade-fine columns cond word there even =
     let column = IsColumn-lacks columns cond.column there in
-    IsMade-read columns cond column (cell_of column.item.ty cond.literal) refl
+    IsMade-read columns cond column (cell_of column.item.ty cond.literal) word refl
     (rw (column.found, column.there) at even)
 
 -- the conditions of a filter
 pub conds-fit : (columns : List Column) (conds : List WrittenCondOf)
+    → AllByRecursion (λ (cond : WrittenCondOf). IsLineWord cond.literal) conds
     → list_any (λ (cond : WrittenCondOf). lacks columns cond.column) conds ≡ false
     → list_any (has_odd_literal columns) conds ≡ false
     → All (IsCond columns) (filter_map (declared_cond columns) conds)
-conds-fit columns [] there even = All-nil (IsCond columns)
-conds-fit columns (cond ∷ others) there even =
+conds-fit columns [] said there even = All-nil (IsCond columns)
+conds-fit columns (cond ∷ others) said there even =
     let found = or-none (lacks columns cond.column) _ there in
     let typed = or-none (has_odd_literal columns cond) _ even in
-    let cond_made = IsMade-fine columns cond found.0 typed.0 in
+    let cond_made = IsMade-fine columns cond said.0 found.0 typed.0 in
     rw cond_made.is (All-cons (IsCond columns) cond_made.made
     (filter_map (declared_cond columns) others) cond_made.fits
-    (conds-fit columns others found.1 typed.1))
+    (conds-fit columns others said.1 found.1 typed.1))
 
 -- as many as were written
 pub length-conds : (columns : List Column) (conds : List WrittenCondOf)
+    → AllByRecursion (λ (cond : WrittenCondOf). IsLineWord cond.literal) conds
     → list_any (λ (cond : WrittenCondOf). lacks columns cond.column) conds ≡ false
     → list_any (has_odd_literal columns) conds ≡ false
     → length (filter_map (declared_cond columns) conds) ≡ length conds
-length-conds columns [] there even = refl
-length-conds columns (cond ∷ others) there even =
+length-conds columns [] said there even = refl
+length-conds columns (cond ∷ others) said there even =
     let found = or-none (lacks columns cond.column) _ there in
     let typed = or-none (has_odd_literal columns cond) _ even in
-    let cond_made = IsMade-fine columns cond found.0 typed.0 in
-    rw (cond_made.is, length-conds columns others found.1 typed.1) refl
+    let cond_made = IsMade-fine columns cond said.0 found.0 typed.0 in
+    rw (cond_made.is, length-conds columns others said.1 found.1 typed.1) refl
 
 -- a sum that is of no texts is of ints
 sum-int : (columns : List Column) (name : List ℕ) (column : IsColumn columns name) (of : Ty)

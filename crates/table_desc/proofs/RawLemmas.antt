@@ -11,14 +11,14 @@ use Rattle.depot_cell.specs.declared.cell.Ty.{Ty}
 use Rattle.depot_cell.specs.declared.cell.Ty.TheVariants as ty
 use Rattle.desc_lines.specs.Names.{begins_name, is_name, is_name_byte, reserved}
 use Rattle.desc_lines.specs.Written.{WrittenAggOf, WrittenColumnOf}
-use Rattle.table_desc.specs.declared.table.Column.{Column}
-use Rattle.table_desc.specs.Lookups.{read_type}
-use Rattle.table_desc.specs.Causes.{is_text, time_type, written_place}
+use Rattle.desc_types.specs.declared.table.Column.{Column}
+use Rattle.desc_types.specs.Lookups.{read_type}
+use Rattle.desc_causes.specs.Causes.{is_text, time_type, written_place}
 use Rattle.table_desc.specs.Declarations.{agg_column, declared_column, time_number}
-use Rattle.table_desc.specs.Accepted.{NamesColumn, column_names, column_type}
-use Rattle.table_desc.proofs.BoolLemmas.{and-both, not-true}
+use Rattle.desc_types.specs.Accepted.{NamesColumn, column_names, column_type}
+use Rattle.desc_types.proofs.BoolLemmas.{and-both, not-true}
 use Rattle.table_desc.proofs.KeptLemmas.{All-there}
-use Rattle.table_desc.proofs.ListLemmas.{list_any-none}
+use Rattle.desc_types.proofs.ListLemmas.{list_any-none}
 use Rattle.table_desc.proofs.LookupLemmas.{IsPlace, IsPlace-found}
 
 -- a name names a column of any table

@@ -11,10 +11,10 @@ use Rattle.std.proofs.lemmas.List.Splits.{length-slice_split, slice_split_first,
 use Rattle.std.proofs.lemmas.List.Sums.{fails_before_first}
 use Rattle.std.proofs.lemmas.Option.{cond_some}
 use Rattle.desc_lines.specs.Texts.{ended, lines_of}
-use Rattle.table_desc.specs.declared.reading.fault.DescCause.{DescCause}
-use Rattle.table_desc.specs.declared.reading.fault.DescFault.{DescFault}
-use Rattle.table_desc.specs.declared.reading.fault.DescFault.TheVariants.{At, Memory}
-use Rattle.table_desc.specs.Descriptions.{DescOf}
+use Rattle.desc_causes.specs.declared.cause.DescCause.{DescCause}
+use Rattle.table_desc.specs.declared.fault.DescFault.{DescFault}
+use Rattle.table_desc.specs.declared.fault.DescFault.TheVariants.{At, Memory}
+use Rattle.desc_types.specs.Descriptions.{DescOf}
 use Rattle.table_desc.specs.Described.{Reads, then_lines, with_line, with_lines}
 
 -- a piece before others

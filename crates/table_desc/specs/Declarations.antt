@@ -1,32 +1,31 @@
 -- What a line declares, if nothing speaks against it. Where something does, numbers are 0.
-use Rattle.std.specs.Prelude.{ℕ, pos, List, [], ◌∷◌, ◌++◌, Option, Some, None, map, codes}
-use Rattle.std.specs.Prelude.{filter_map, option_map, slice_get, unwrap_or, length, All, ◌≡◌, ◌≤◌, true}
+use Rattle.std.specs.Prelude.{ℕ, pos, List, [], ◌∷◌, ◌++◌, Option, Some, None, map}
+use Rattle.std.specs.Prelude.{filter_map, option_map, unwrap_or, length, All, ◌≡◌, ◌≤◌, true}
 use Rattle.std.specs.Result.{result_ok}
 use Rattle.depot_cell.specs.declared.cell.Cell.{Cell}
 use Rattle.depot_cell.specs.declared.cell.Ty.{Ty}
 use Rattle.depot_cell.specs.declared.cell.Ty.TheVariants as ty
 use Rattle.depot_cell.specs.Reading.{cell_of}
 use Rattle.partition_map.specs.declared.time.Span.{Span}
-use Rattle.desc_lines.specs.declared.fun.Fun.{Fun}
-use Rattle.desc_lines.specs.declared.fun.Fun.TheVariants as fun
 use Rattle.desc_lines.specs.Names.{is_name}
 use Rattle.desc_lines.specs.Written.{WrittenAggOf, WrittenColumnOf, WrittenCondOf, WrittenKindOf}
 use Rattle.desc_lines.specs.Written.{WrittenLineOf, WrittenPairOf, WrittenSourceOf, WrittenTableOf}
 use Rattle.desc_lines.specs.Written.{Raw, Filter, Group, Join, FeedLine, TableLine}
-use Rattle.table_desc.specs.declared.table.Column.{Column}
-use Rattle.table_desc.specs.declared.table.Feed.{Feed}
-use Rattle.table_desc.specs.declared.view.Agg.{Agg}
-use Rattle.table_desc.specs.declared.view.Cond.{Cond}
-use Rattle.table_desc.specs.declared.view.Pair.{Pair}
-use Rattle.table_desc.specs.declared.view.Src.{Src}
-use Rattle.table_desc.specs.KindValues as kind
-use Rattle.table_desc.specs.KindValues.{KindOf}
-use Rattle.table_desc.specs.Causes.{written_place}
-use Rattle.table_desc.specs.Descriptions.{DescOf}
-use Rattle.table_desc.specs.Tables.{TableOf}
-use Rattle.table_desc.specs.Lookups.{find_column, find_feed, find_table, find_type}
-use Rattle.table_desc.specs.Lookups.{read_type, source_columns}
-use Rattle.table_desc.specs.Ticks.{read_span, read_width}
+use Rattle.desc_types.specs.declared.table.Column.{Column}
+use Rattle.desc_types.specs.declared.table.Feed.{Feed}
+use Rattle.desc_types.specs.declared.view.Agg.{Agg}
+use Rattle.desc_types.specs.declared.view.Cond.{Cond}
+use Rattle.desc_types.specs.declared.view.Pair.{Pair}
+use Rattle.desc_types.specs.declared.view.Src.{Src}
+use Rattle.desc_types.specs.KindValues as kind
+use Rattle.desc_types.specs.KindValues.{KindOf}
+use Rattle.desc_causes.specs.Causes.{written_place}
+use Rattle.desc_types.specs.Columns.{agg_type, joined_columns, kept_columns}
+use Rattle.desc_types.specs.Descriptions.{DescOf}
+use Rattle.desc_types.specs.Tables.{TableOf}
+use Rattle.desc_types.specs.Lookups.{find_column, find_feed, find_table, find_type}
+use Rattle.desc_types.specs.Lookups.{read_type, source_columns}
+use Rattle.desc_causes.specs.Ticks.{read_span, read_width}
 
 -- the number that was found
 abbrev pub found : Option ℕ → ℕ
@@ -84,38 +83,14 @@ declared_pair left right pair = record {
   right = column_number right pair.right;
 }
 
--- the columns with these numbers
-abbrev pub kept_columns : List Column → (keep : List ℕ) → List Column
-kept_columns columns keep = filter_map (slice_get columns) keep
-
--- the type of what is computed of a column of this type: a sum and a count are ints
-abbrev pub computed_type : Fun → Option Ty → Ty
-computed_type fun.Least (Some ty) = ty
-computed_type fun.Greatest (Some ty) = ty
-computed_type _ _ = ty.Int
-
--- the type of an aggregate over a source with these columns
-abbrev pub agg_type : List Column → Agg → Ty
-agg_type columns agg = computed_type agg.fun
-    (option_map (λ (column : Column). column.ty) (slice_get columns agg.column))
-
 -- the column that an aggregate makes
 abbrev pub agg_column : List Column → WrittenAggOf → Column
 agg_column columns agg =
     record { name = agg.name; ty = agg_type columns (declared_agg columns agg) }
 
--- a column of a join: under a prefix
-abbrev pub prefixed : (prefix : List ℕ) → Column → Column
-prefixed prefix column = record column { name = prefix ++ column.name }
-
 -- a column whose name leaves room for a prefix
 abbrev pub LeavesRoom : Column → Type 0
 LeavesRoom column = length column.name ≤ 253
-
--- the columns of a join: the left ones under `l_`, then the right ones under `r_`
-abbrev pub joined_columns : (left right : List Column) → List Column
-joined_columns left right =
-    map (prefixed (codes "l_")) left ++ map (prefixed (codes "r_")) right
 
 -- what fills a table, and the columns that it has
 pub record FillingOf : Type 0 where

@@ -1,20 +1,14 @@
 -- The lines of a description one by one, for a reader that never holds the text.
 use Rattle.std.specs.Prelude.{ℕ, ◌+◌, ◌≡◌, List, [], ◌∷◌, Result, Ok, Err, fold}
 use Rattle.desc_lines.specs.Texts.{lines_of}
-use Rattle.table_desc.specs.declared.accepted.AcceptedDesc.{AcceptedDesc}
-use Rattle.table_desc.specs.declared.reading.fault.BadLine.{BadLine}
-use Rattle.table_desc.specs.Descriptions.{DescOf}
+use Rattle.table_desc.specs.declared.fault.BadLine.{BadLine}
+use Rattle.desc_types.specs.Descriptions.{DescOf}
 use Rattle.table_desc.specs.Described.{described, no_desc, with_lines}
 
 -- lines: how many there are, and what they declare, or the first bad one
 pub record DraftOf : Type 0 where
   pub lines : ℕ
   pub read : Result DescOf BadLine
-
--- what was read, as a description that was accepted or the first bad line
-abbrev pub read_of : Result AcceptedDesc BadLine → Result DescOf BadLine
-read_of (Ok accepted) = Ok accepted.desc
-read_of (Err bad) = Err bad
 
 -- no line
 abbrev pub no_lines : DraftOf

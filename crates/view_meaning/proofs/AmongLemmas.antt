@@ -5,7 +5,7 @@ use Rattle.std.specs.List.{list_any}
 use Rattle.std.proofs.lemmas.Bool.{and_parts, and_from, eqb-true, eq-eqb, false_from_ne_true}
 use Rattle.std.proofs.lemmas.List.Elements.{All-cons}
 use Rattle.std.proofs.lemmas.List.Folds.{list_any_none, Any-from_list_any}
-use Rattle.table_desc.specs.declared.table.Key.{Key}
+use Rattle.desc_types.specs.declared.table.Key.{Key}
 
 -- whether two keys are the same
 abbrev pub is_key : Key → Key → Bool

@@ -11,15 +11,15 @@ use Rattle.std.proofs.lemmas.List.{take_all}
 use Rattle.std.proofs.lemmas.List.Elements.{All-head, All-tail, All-weaker}
 use Rattle.std.proofs.lemmas.List.Sums.{AllPass-from_list_all}
 use Rattle.depot_cell.specs.declared.cell.Cell.{Cell}
-use Rattle.table_desc.specs.declared.table.Key.{Key}
-use Rattle.table_desc.specs.declared.delivery.DRow.{DRow}
-use Rattle.table_desc.specs.declared.view.Src.{Src}
-use Rattle.table_desc.specs.Deliveries.{DeliveryOf}
-use Rattle.table_desc.specs.Descriptions.{DescOf}
-use Rattle.table_desc.specs.Tables.{TableOf}
-use Rattle.table_desc.specs.KindValues.{KindOf, Raw, Filter, Group, Join}
+use Rattle.desc_types.specs.declared.table.Key.{Key}
+use Rattle.desc_types.specs.declared.delivery.DRow.{DRow}
+use Rattle.desc_types.specs.declared.view.Src.{Src}
+use Rattle.desc_types.specs.Deliveries.{DeliveryOf}
+use Rattle.desc_types.specs.Descriptions.{DescOf}
+use Rattle.desc_types.specs.Tables.{TableOf}
+use Rattle.desc_types.specs.KindValues.{KindOf, Raw, Filter, Group, Join}
 use Rattle.view_meaning.specs.declared.journal.Entry.{Entry}
-use Rattle.table_desc.specs.Sources.{kind_sources}
+use Rattle.desc_types.specs.Sources.{kind_sources}
 use Rattle.view_meaning.specs.Partitions.{keys_read, sources_of, keys_below}
 use Rattle.view_meaning.specs.Journal.{accepted}
 use Rattle.view_meaning.specs.RawValues.{lies_in, raw_value}

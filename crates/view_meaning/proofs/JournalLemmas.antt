@@ -1,7 +1,7 @@
 -- The accepted deliveries of a journal that grows.
 use Rattle.std.proofs.Common.{◌≡◌, List, [], ◌∷◌, ◌++◌, refl, ap, map}
 use Rattle.std.proofs.lemmas.List.Elements.{filter_map-append}
-use Rattle.table_desc.specs.Deliveries.{DeliveryOf}
+use Rattle.desc_types.specs.Deliveries.{DeliveryOf}
 use Rattle.view_meaning.specs.declared.journal.Entry.{Entry}
 use Rattle.view_meaning.specs.declared.journal.Entry.TheVariants as entry
 use Rattle.view_meaning.specs.Journal.{accepted, delivery_of}

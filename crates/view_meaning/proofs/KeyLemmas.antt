@@ -14,12 +14,12 @@ use Rattle.std.proofs.lemmas.List.Elements.{All-nil, All-map, filter_passes, All
 use Rattle.std.proofs.lemmas.List.Folds.{list_any_at}
 use Rattle.std.proofs.lemmas.List.FromFn.{length-range_with_len, get_or-range_with_len}
 use Rattle.std.proofs.lemmas.List.Kept.{AllPairs-filter}
-use Rattle.table_desc.specs.declared.table.Key.{Key}
-use Rattle.table_desc.specs.declared.view.Src.{Src}
-use Rattle.table_desc.specs.Descriptions.{DescOf}
-use Rattle.table_desc.specs.Tables.{TableOf}
-use Rattle.table_desc.specs.KindValues.{KindOf, Raw, Filter, Group, Join}
-use Rattle.table_desc.specs.Sources.{width_of, table_width, kind_sources}
+use Rattle.desc_types.specs.declared.table.Key.{Key}
+use Rattle.desc_types.specs.declared.view.Src.{Src}
+use Rattle.desc_types.specs.Descriptions.{DescOf}
+use Rattle.desc_types.specs.Tables.{TableOf}
+use Rattle.desc_types.specs.KindValues.{KindOf, Raw, Filter, Group, Join}
+use Rattle.desc_types.specs.Sources.{width_of, table_width, kind_sources}
 use Rattle.partition_map.specs.Time.{END}
 use Rattle.partition_map.specs.Partitions.{start_of, end_of, is_met, parts_met, all_parts}
 use Rattle.view_meaning.specs.Partitions.{is_part}

@@ -14,11 +14,11 @@ use Rattle.partition_map.specs.Partitions.{start_of, is_met, all_parts, has}
 use Rattle.partition_map.specs.Partitions.{source_parts, dependent_parts}
 use Rattle.partition_map.proofs.DependentLemmas.{mutual_parts}
 use Rattle.partition_map.proofs.NumberLemmas.{has-filter, has-parts_met}
-use Rattle.table_desc.specs.declared.table.Key.{Key}
-use Rattle.table_desc.specs.declared.view.Src.{Src}
-use Rattle.table_desc.specs.Deliveries.{DeliveryOf}
-use Rattle.table_desc.specs.Descriptions.{DescOf}
-use Rattle.table_desc.specs.Sources.{table_width}
+use Rattle.desc_types.specs.declared.table.Key.{Key}
+use Rattle.desc_types.specs.declared.view.Src.{Src}
+use Rattle.desc_types.specs.Deliveries.{DeliveryOf}
+use Rattle.desc_types.specs.Descriptions.{DescOf}
+use Rattle.desc_types.specs.Sources.{table_width}
 use Rattle.view_meaning.specs.Partitions.{keys_read}
 use Rattle.view_meaning.specs.Reached.{brings}
 use Rattle.view_meaning.specs.PartLists.{AreBrought, AreInTime, Gains, is_listed, key_of}

@@ -9,11 +9,11 @@ use Rattle.std.proofs.lemmas.List.Elements.{filter-append, filter_agree}
 use Rattle.std.proofs.lemmas.List.Folds.{list_any_none}
 use Rattle.std.proofs.Math.Bool.{and-false}
 use Rattle.std.proofs.Math.Nat.{add_comm, add_assoc}
-use Rattle.table_desc.specs.declared.table.Key.{Key}
-use Rattle.table_desc.specs.declared.delivery.DRow.{DRow}
-use Rattle.table_desc.specs.Deliveries.{DeliveryOf}
-use Rattle.table_desc.specs.Descriptions.{DescOf}
-use Rattle.table_desc.specs.Tables.{TableOf}
+use Rattle.desc_types.specs.declared.table.Key.{Key}
+use Rattle.desc_types.specs.declared.delivery.DRow.{DRow}
+use Rattle.desc_types.specs.Deliveries.{DeliveryOf}
+use Rattle.desc_types.specs.Descriptions.{DescOf}
+use Rattle.desc_types.specs.Tables.{TableOf}
 use Rattle.view_meaning.specs.declared.journal.Entry.{Entry}
 use Rattle.view_meaning.specs.Journal.{accepted}
 use Rattle.view_meaning.specs.RawValues.{lies_in, raw_value}

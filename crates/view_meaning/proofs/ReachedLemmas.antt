@@ -9,12 +9,12 @@ use Rattle.std.proofs.lemmas.List.Folds.{list_any_none}
 use Rattle.std.proofs.lemmas.List.Elements.{All-weaker}
 use Rattle.partition_map.specs.Time.{END}
 use Rattle.partition_map.specs.Partitions.{start_of, end_of, is_covered, is_met}
-use Rattle.table_desc.specs.declared.table.Key.{Key}
-use Rattle.table_desc.specs.declared.delivery.DRow.{DRow}
-use Rattle.table_desc.specs.Deliveries.{DeliveryOf}
-use Rattle.table_desc.specs.Descriptions.{DescOf}
-use Rattle.table_desc.specs.Tables.{TableOf}
-use Rattle.table_desc.specs.Sources.{HasEarlierSources, width_of}
+use Rattle.desc_types.specs.declared.table.Key.{Key}
+use Rattle.desc_types.specs.declared.delivery.DRow.{DRow}
+use Rattle.desc_types.specs.Deliveries.{DeliveryOf}
+use Rattle.desc_types.specs.Descriptions.{DescOf}
+use Rattle.desc_types.specs.Tables.{TableOf}
+use Rattle.desc_types.specs.Sources.{HasEarlierSources, width_of}
 use Rattle.view_meaning.specs.Partitions.{is_part, sources_of}
 use Rattle.view_meaning.specs.Journal.{row_tick}
 use Rattle.view_meaning.specs.RawValues.{covers_tick, holds_cells, lies_in}

@@ -17,11 +17,11 @@ use Rattle.partition_map.specs.Time.{END}
 use Rattle.partition_map.specs.Partitions.{start_of, end_of, is_met, all_parts, has}
 use Rattle.partition_map.proofs.ListLemmas.{range_with_len-append}
 use Rattle.partition_map.proofs.NumberLemmas.{has-filter}
-use Rattle.table_desc.specs.declared.table.Key.{Key}
-use Rattle.table_desc.specs.Deliveries.{DeliveryOf}
-use Rattle.table_desc.specs.Descriptions.{DescOf}
-use Rattle.table_desc.specs.Tables.{TableOf}
-use Rattle.table_desc.specs.Sources.{HasEarlierSources, kind_sources, table_width, width_of}
+use Rattle.desc_types.specs.declared.table.Key.{Key}
+use Rattle.desc_types.specs.Deliveries.{DeliveryOf}
+use Rattle.desc_types.specs.Descriptions.{DescOf}
+use Rattle.desc_types.specs.Tables.{TableOf}
+use Rattle.desc_types.specs.Sources.{HasEarlierSources, kind_sources, table_width, width_of}
 use Rattle.view_meaning.specs.Partitions.{is_part, keys_below, sources_of}
 use Rattle.view_meaning.specs.Versions.{is_raw_kind}
 use Rattle.view_meaning.specs.Drains.{view_keys}

@@ -5,9 +5,9 @@ use Rattle.std.proofs.Common.{inr, arith}
 use Rattle.std.specs.Prelude.{true, false, slice_get}
 use Rattle.std.proofs.lemmas.Bool.{cases_Bool}
 use Rattle.std.proofs.lemmas.List.{take_all}
-use Rattle.table_desc.specs.declared.table.Key.{Key}
-use Rattle.table_desc.specs.Descriptions.{DescOf}
-use Rattle.table_desc.specs.Sources.{HasEarlierSources}
+use Rattle.desc_types.specs.declared.table.Key.{Key}
+use Rattle.desc_types.specs.Descriptions.{DescOf}
+use Rattle.desc_types.specs.Sources.{HasEarlierSources}
 use Rattle.view_meaning.specs.declared.journal.Entry.{Entry}
 use Rattle.view_meaning.specs.Journal.{accepted}
 use Rattle.view_meaning.specs.Versions.{install_places, is_raw, last_place, version}

@@ -3,11 +3,11 @@
 use Rattle.std.proofs.Common.{◌≡◌, ◌∙◌, ℕ, suc, zero, ◌<◌, refl, sym, arith}
 use Rattle.std.specs.Prelude.{Option, Some, None, All, slice_get}
 use Rattle.std.proofs.lemmas.List.Elements.{All-map, All-weaker}
-use Rattle.table_desc.specs.declared.table.Key.{Key}
-use Rattle.table_desc.specs.declared.view.Src.{Src}
-use Rattle.table_desc.specs.Descriptions.{DescOf}
-use Rattle.table_desc.specs.Tables.{TableOf}
-use Rattle.table_desc.specs.Sources.{HasEarlierSources, kind_sources, table_width}
+use Rattle.desc_types.specs.declared.table.Key.{Key}
+use Rattle.desc_types.specs.declared.view.Src.{Src}
+use Rattle.desc_types.specs.Descriptions.{DescOf}
+use Rattle.desc_types.specs.Tables.{TableOf}
+use Rattle.desc_types.specs.Sources.{HasEarlierSources, kind_sources, table_width}
 use Rattle.partition_map.specs.Partitions.{source_parts}
 use Rattle.view_meaning.specs.Partitions.{keys_below, keys_read, sources_of}
 use Rattle.view_meaning.proofs.ListLemmas.{All-flat_map}

@@ -10,15 +10,15 @@ use Rattle.std.proofs.lemmas.Bool.{and_right, cases_Bool, eq-eqb, ne_eqb, falseâ
 use Rattle.std.proofs.lemmas.List.{append-nil, append_assoc}
 use Rattle.std.proofs.Math.Bool.{not-not}
 use Rattle.view_meaning.proofs.BoolLemmas.{not-or}
-use Rattle.table_desc.specs.declared.table.Key.{Key}
-use Rattle.table_desc.specs.declared.delivery.DRow.{DRow}
-use Rattle.table_desc.specs.Deliveries.{DeliveryOf}
-use Rattle.table_desc.specs.Descriptions.{DescOf}
-use Rattle.table_desc.specs.Tables.{TableOf}
-use Rattle.table_desc.specs.KindValues.{KindOf, Raw, Filter, Group, Join}
+use Rattle.desc_types.specs.declared.table.Key.{Key}
+use Rattle.desc_types.specs.declared.delivery.DRow.{DRow}
+use Rattle.desc_types.specs.Deliveries.{DeliveryOf}
+use Rattle.desc_types.specs.Descriptions.{DescOf}
+use Rattle.desc_types.specs.Tables.{TableOf}
+use Rattle.desc_types.specs.KindValues.{KindOf, Raw, Filter, Group, Join}
 use Rattle.view_meaning.specs.declared.journal.Entry.{Entry}
 use Rattle.view_meaning.specs.declared.journal.Entry.TheVariants as entry
-use Rattle.table_desc.specs.Sources.{HasEarlierSources}
+use Rattle.desc_types.specs.Sources.{HasEarlierSources}
 use Rattle.view_meaning.specs.Partitions.{is_part, sources_of}
 use Rattle.view_meaning.specs.Journal.{accepted, row_tick}
 use Rattle.view_meaning.specs.RawValues.{covers_tick, holds_cells, lies_in}

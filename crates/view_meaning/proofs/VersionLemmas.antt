@@ -8,9 +8,9 @@ use Rattle.std.proofs.lemmas.List.{append-nil, map-append, length-append, take-a
 use Rattle.std.proofs.lemmas.List.{take-append-le}
 use Rattle.std.proofs.lemmas.List.Elements.{filter-append}
 use Rattle.std.proofs.lemmas.List.Sums.{fold-append}
-use Rattle.table_desc.specs.declared.table.Key.{Key}
-use Rattle.table_desc.specs.Deliveries.{DeliveryOf}
-use Rattle.table_desc.specs.Descriptions.{DescOf}
+use Rattle.desc_types.specs.declared.table.Key.{Key}
+use Rattle.desc_types.specs.Deliveries.{DeliveryOf}
+use Rattle.desc_types.specs.Descriptions.{DescOf}
 use Rattle.view_meaning.specs.declared.journal.Entry.{Entry}
 use Rattle.view_meaning.specs.declared.journal.Entry.TheVariants as entry
 use Rattle.view_meaning.specs.Journal.{accepted}

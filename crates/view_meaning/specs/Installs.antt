@@ -1,8 +1,8 @@
 -- What the installs of a legal journal made.
 use Rattle.std.specs.Prelude.{ℕ, suc, ◌<◌, ◌≡◌, List, length, take}
-use Rattle.table_desc.specs.declared.table.Key.{Key}
-use Rattle.table_desc.specs.Descriptions.{DescOf}
-use Rattle.table_desc.specs.Sources.{HasEarlierSources}
+use Rattle.desc_types.specs.declared.table.Key.{Key}
+use Rattle.desc_types.specs.Descriptions.{DescOf}
+use Rattle.desc_types.specs.Sources.{HasEarlierSources}
 use Rattle.view_meaning.specs.declared.journal.Entry.{Entry}
 use Rattle.view_meaning.specs.Journal.{accepted}
 use Rattle.view_meaning.specs.Versions.{install_places, nth_place}

@@ -5,13 +5,13 @@ use Rattle.std.specs.List.{AllZip, AllAdjacentBelow, list_any}
 use Rattle.depot_cell.specs.declared.cell.Cell.{Cell}
 use Rattle.depot_cell.specs.declared.cell.Cell.TheVariants as cell
 use Rattle.depot_cell.specs.Cells.{ty_of, IsCell}
-use Rattle.table_desc.specs.declared.table.Column.{Column}
-use Rattle.table_desc.specs.declared.table.Key.{Key}
-use Rattle.table_desc.specs.declared.delivery.DRow.{DRow}
-use Rattle.table_desc.specs.Deliveries.{DeliveryOf}
-use Rattle.table_desc.specs.Descriptions.{DescOf}
-use Rattle.table_desc.specs.Tables.{TableOf}
-use Rattle.table_desc.specs.KindValues.{KindOf, Raw, Filter, Group, Join}
+use Rattle.desc_types.specs.declared.table.Column.{Column}
+use Rattle.desc_types.specs.declared.table.Key.{Key}
+use Rattle.desc_types.specs.declared.delivery.DRow.{DRow}
+use Rattle.desc_types.specs.Deliveries.{DeliveryOf}
+use Rattle.desc_types.specs.Descriptions.{DescOf}
+use Rattle.desc_types.specs.Tables.{TableOf}
+use Rattle.desc_types.specs.KindValues.{KindOf, Raw, Filter, Group, Join}
 use Rattle.view_meaning.specs.declared.journal.Entry.{Entry}
 use Rattle.view_meaning.specs.declared.journal.Entry.TheVariants as entry
 use Rattle.partition_map.specs.Time.{END}

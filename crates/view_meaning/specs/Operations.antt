@@ -9,12 +9,12 @@ use Rattle.depot_cell.specs.declared.cell.Cell.TheVariants.{Int, Text}
 use Rattle.depot_cell.specs.declared.cell.Op.{Op}
 use Rattle.depot_cell.specs.declared.cell.Op.TheVariants.{Lt, Gt}
 use Rattle.depot_cell.specs.Cells.{cell_cmp, passes, same_cells}
-use Rattle.table_desc.specs.declared.view.Agg.{Agg}
-use Rattle.table_desc.specs.declared.view.Cond.{Cond}
+use Rattle.desc_types.specs.declared.view.Agg.{Agg}
+use Rattle.desc_types.specs.declared.view.Cond.{Cond}
 use Rattle.desc_lines.specs.declared.fun.Fun.{Fun}
 use Rattle.desc_lines.specs.declared.fun.Fun.TheVariants.{Sum, Count, Least, Greatest}
-use Rattle.table_desc.specs.declared.view.Pair.{Pair}
-use Rattle.table_desc.specs.KindValues.{KindOf, Raw, Filter, Group, Join}
+use Rattle.desc_types.specs.declared.view.Pair.{Pair}
+use Rattle.desc_types.specs.KindValues.{KindOf, Raw, Filter, Group, Join}
 
 -- whether a condition holds of a cell that is there
 abbrev pub holds_of : Cond → Option Cell → Bool

@@ -4,13 +4,13 @@ use Rattle.std.specs.Prelude.{ℕ, ◌≡◌, ◌<◌, ◌||◌, ◌&&◌, Bool,
 use Rattle.std.specs.Prelude.{length, slice_get, slice_index_or, if◌then◌else◌, Vec}
 use Rattle.std.specs.List.{list_any, range_with_len}
 use Rattle.std.specs.declared.alloc.Global.{Global}
-use Rattle.table_desc.specs.declared.table.Key.{Key}
-use Rattle.table_desc.specs.declared.delivery.DRow.{DRow}
-use Rattle.table_desc.specs.declared.view.Src.{Src}
-use Rattle.table_desc.specs.Deliveries.{DeliveryOf}
-use Rattle.table_desc.specs.Descriptions.{DescOf}
-use Rattle.table_desc.specs.KindValues.{KindOf}
-use Rattle.table_desc.specs.Sources.{table_width}
+use Rattle.desc_types.specs.declared.table.Key.{Key}
+use Rattle.desc_types.specs.declared.delivery.DRow.{DRow}
+use Rattle.desc_types.specs.declared.view.Src.{Src}
+use Rattle.desc_types.specs.Deliveries.{DeliveryOf}
+use Rattle.desc_types.specs.Descriptions.{DescOf}
+use Rattle.desc_types.specs.KindValues.{KindOf}
+use Rattle.desc_types.specs.Sources.{table_width}
 use Rattle.partition_map.specs.Time.{END}
 use Rattle.partition_map.specs.Partitions.{start_of, is_met, has}
 use Rattle.view_meaning.specs.Partitions.{is_part, keys_read}

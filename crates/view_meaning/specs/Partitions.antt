@@ -1,13 +1,13 @@
 -- The partitions of a description: which keys name one, and which are the sources of a view's
 -- partition.
 use Rattle.std.specs.Prelude.{ℕ, Bool, List, [], Option, Some, None, slice_get, map, flat_map}
-use Rattle.table_desc.specs.declared.table.Key.{Key}
+use Rattle.desc_types.specs.declared.table.Key.{Key}
 use Rattle.partition_map.specs.Partitions.{is_met, source_parts}
-use Rattle.table_desc.specs.declared.view.Src.{Src}
-use Rattle.table_desc.specs.Descriptions.{DescOf}
-use Rattle.table_desc.specs.Tables.{TableOf}
+use Rattle.desc_types.specs.declared.view.Src.{Src}
+use Rattle.desc_types.specs.Descriptions.{DescOf}
+use Rattle.desc_types.specs.Tables.{TableOf}
 use Rattle.partition_map.specs.Time.{END}
-use Rattle.table_desc.specs.Sources.{table_width, kind_sources}
+use Rattle.desc_types.specs.Sources.{table_width, kind_sources}
 
 -- whether a key names a partition of its table: one that shares a tick with time
 abbrev pub is_part : DescOf → Key → Bool

@@ -2,12 +2,12 @@
 -- all was settled before, these are the ones to be computed.
 use Rattle.std.specs.Prelude.{ℕ, zero, suc, ◌≡◌, List, ◌++◌, Bool, true, false, ◌||◌, filter, map}
 use Rattle.std.specs.List.{list_any}
-use Rattle.table_desc.specs.declared.table.Key.{Key}
-use Rattle.table_desc.specs.Deliveries.{DeliveryOf}
-use Rattle.table_desc.specs.Descriptions.{DescOf}
+use Rattle.desc_types.specs.declared.table.Key.{Key}
+use Rattle.desc_types.specs.Deliveries.{DeliveryOf}
+use Rattle.desc_types.specs.Descriptions.{DescOf}
 use Rattle.view_meaning.specs.declared.journal.Entry.{Entry}
 use Rattle.view_meaning.specs.declared.journal.Entry.TheVariants as entry
-use Rattle.table_desc.specs.Sources.{HasEarlierSources}
+use Rattle.desc_types.specs.Sources.{HasEarlierSources}
 use Rattle.view_meaning.specs.Partitions.{is_part, sources_of}
 use Rattle.view_meaning.specs.RawValues.{lies_in}
 use Rattle.view_meaning.specs.Staleness.{is_settled}

@@ -1,8 +1,8 @@
 -- Which rows of the accepted deliveries are kept, and which are set aside.
 use Rattle.std.specs.Prelude.{List, [], ◌∷◌, ◌++◌, Bool, false, not, filter}
-use Rattle.table_desc.specs.declared.delivery.DRow.{DRow}
-use Rattle.table_desc.specs.Deliveries.{DeliveryOf}
-use Rattle.table_desc.specs.Descriptions.{DescOf}
+use Rattle.desc_types.specs.declared.delivery.DRow.{DRow}
+use Rattle.desc_types.specs.Deliveries.{DeliveryOf}
+use Rattle.desc_types.specs.Descriptions.{DescOf}
 
 -- whether the deliveries accepted before closed the partition that a row is for. Nothing closes a
 -- partition yet, so no row is late.

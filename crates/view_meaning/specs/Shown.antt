@@ -1,13 +1,13 @@
 -- What an answer shows of the partitions that a request asks for.
 use Rattle.std.specs.Prelude.{ℕ, ◌≡◌, List, map, length, take, slice_get, if◌then◌else◌}
 use Rattle.depot_cell.specs.declared.cell.Cell.{Cell}
-use Rattle.table_desc.specs.declared.table.Key.{Key}
-use Rattle.table_desc.specs.Descriptions.{DescOf}
+use Rattle.desc_types.specs.declared.table.Key.{Key}
+use Rattle.desc_types.specs.Descriptions.{DescOf}
 use Rattle.view_meaning.specs.declared.journal.Entry.{Entry}
 use Rattle.view_meaning.specs.declared.request.Item.{Item}
 use Rattle.view_meaning.specs.declared.request.PinItem.{PinItem}
 use Rattle.view_meaning.specs.declared.request.Mark.TheVariants as mark
-use Rattle.table_desc.specs.Sources.{HasEarlierSources, table_width}
+use Rattle.desc_types.specs.Sources.{HasEarlierSources, table_width}
 use Rattle.partition_map.specs.Partitions.{parts_met}
 use Rattle.view_meaning.specs.Journal.{accepted}
 use Rattle.view_meaning.specs.Values.{value}

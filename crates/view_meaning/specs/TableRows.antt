@@ -1,9 +1,9 @@
 -- Rows against one table, as the programs that compute the definitions test them.
 use Rattle.std.specs.Prelude.{List, Some, Bool, ◌&&◌, ◌==◌, map, filter}
 use Rattle.depot_cell.specs.declared.cell.Cell.{Cell}
-use Rattle.table_desc.specs.declared.table.Key.{Key}
-use Rattle.table_desc.specs.declared.delivery.DRow.{DRow}
-use Rattle.table_desc.specs.Tables.{TableOf}
+use Rattle.desc_types.specs.declared.table.Key.{Key}
+use Rattle.desc_types.specs.declared.delivery.DRow.{DRow}
+use Rattle.desc_types.specs.Tables.{TableOf}
 use Rattle.view_meaning.specs.RawValues.{holds_cells}
 
 -- whether a row lies in a partition of this table

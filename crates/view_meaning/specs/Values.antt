@@ -2,13 +2,13 @@
 use Rattle.std.specs.Prelude.{ℕ, zero, suc, List, [], Option, Some, None, flat_map, slice_get}
 use Rattle.std.specs.Prelude.{if◌then◌else◌}
 use Rattle.depot_cell.specs.declared.cell.Cell.{Cell}
-use Rattle.table_desc.specs.declared.table.Key.{Key}
-use Rattle.table_desc.specs.declared.view.Src.{Src}
-use Rattle.table_desc.specs.Deliveries.{DeliveryOf}
-use Rattle.table_desc.specs.Descriptions.{DescOf}
-use Rattle.table_desc.specs.KindValues.{KindOf}
-use Rattle.table_desc.specs.Sources.{kind_sources}
-use Rattle.table_desc.specs.Tables.{TableOf}
+use Rattle.desc_types.specs.declared.table.Key.{Key}
+use Rattle.desc_types.specs.declared.view.Src.{Src}
+use Rattle.desc_types.specs.Deliveries.{DeliveryOf}
+use Rattle.desc_types.specs.Descriptions.{DescOf}
+use Rattle.desc_types.specs.KindValues.{KindOf}
+use Rattle.desc_types.specs.Sources.{kind_sources}
+use Rattle.desc_types.specs.Tables.{TableOf}
 use Rattle.view_meaning.specs.Partitions.{keys_read}
 use Rattle.view_meaning.specs.RawValues.{raw_value}
 use Rattle.view_meaning.specs.Operations.{operation}

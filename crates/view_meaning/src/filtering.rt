@@ -7,8 +7,8 @@ ghost use Rattle.view_meaning.specs.Operations.{filtered, meets};
 
 use crate::columns::{cell_at, cut_row};
 use depot_cell::{Memory, Row, Rows, holds};
+use desc_types::Cond;
 use std::alloc::Global;
-use table_desc::Cond;
 
 /// Puts the rows of a source that meet all conditions at the end, cut to the kept columns. After
 /// an `Err` there may be some of them.

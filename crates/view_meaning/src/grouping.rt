@@ -12,8 +12,8 @@ ghost use Rattle.view_meaning.specs.Operations.{group_row, keys_in, number_in, t
 
 use crate::columns::{cell_at, cut_row, push_copies, push_copy, rows_with, same_cells};
 use depot_cell::{Cell, Memory, Op, Row, Rows, holds};
+use desc_types::{Agg, Fun};
 use std::alloc::Global;
-use table_desc::{Agg, Fun};
 
 /// Puts a row for each different key at the end, in order of first appearance. After an `Err`
 /// there may be some of them.

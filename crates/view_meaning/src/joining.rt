@@ -7,8 +7,8 @@ ghost use Rattle.view_meaning.specs.Operations.{right_columns};
 
 use crate::columns::{cut_row, push_copies, rows_with};
 use depot_cell::{Memory, Row, Rows};
+use desc_types::Pair;
 use std::alloc::Global;
-use table_desc::Pair;
 
 /// Puts each left row beside each right row that agrees with it on all pairs at the end. After an
 /// `Err` there may be some of them.

@@ -1,6 +1,6 @@
 //! The journal: the list of what was accepted, in order. Its places are numbered from 1.
 
-use table_desc::{Delivery, Key};
+use desc_types::{Delivery, Key};
 
 /// An entry of the journal.
 #[derive(Debug, Drop)]

@@ -3,8 +3,8 @@
 ghost use Rattle.std.specs.Prelude.{◌≡◌, ◌+◌, ◌≤◌, ◌++◌, slice_get, IfOk, OnErr, OnOk};
 ghost use Rattle.std.specs.List.{list_any, range_with_len};
 ghost use Rattle.std.specs.Option.{option_copied};
-ghost use Rattle.table_desc.specs.Kinds.{kind_of};
-ghost use Rattle.table_desc.specs.Sources.{table_width};
+ghost use Rattle.desc_types.specs.Kinds.{kind_of};
+ghost use Rattle.desc_types.specs.Sources.{table_width};
 ghost use Rattle.partition_map.specs.Time.{END};
 ghost use Rattle.partition_map.specs.Partitions.{is_covered, source_parts};
 ghost use Rattle.view_meaning.specs.Journal.{tick_of, row_tick};
@@ -19,9 +19,9 @@ use crate::grouping::push_groups;
 use crate::joining::push_joined;
 use crate::parts::parts_read;
 use depot_cell::{Cell, Memory, Row, Rows, copy_row};
+use desc_types::{DRow, Delivery, Desc, END, Key, Kind, Src, Table, Width};
 use partition_map::Parts;
 use std::alloc::Global;
-use table_desc::{DRow, Delivery, Desc, END, Key, Kind, Src, Table, Width};
 
 /// The rows of a partition. Of a raw table they are its rows, in order of acceptance, then of
 /// record; of a view what it makes of the rows of its sources. A key of no table has no rows. It

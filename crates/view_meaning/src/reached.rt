@@ -10,8 +10,8 @@ ghost use Rattle.std.specs.List.Sorted.{IsStrictlyIncreasing};
 ghost use Rattle.partition_map.specs.Time.{END};
 ghost use Rattle.partition_map.specs.Partitions.{start_of, is_covered, has};
 ghost use Rattle.partition_map.specs.Partitions.{dependent_parts, SpanFits};
-ghost use Rattle.table_desc.specs.Sources.{table_width, kind_sources};
-ghost use Rattle.table_desc.specs.Sources.{HasEarlierSources, HasFittingSources};
+ghost use Rattle.desc_types.specs.Sources.{table_width, kind_sources};
+ghost use Rattle.desc_types.specs.Sources.{HasEarlierSources, HasFittingSources};
 ghost use Rattle.view_meaning.specs.Growth.{BeginsWith};
 ghost use Rattle.view_meaning.specs.PartLists.{AllGain, AreBrought, AreInTime, Gains};
 ghost use Rattle.view_meaning.specs.PartLists.{key_of, keys_of_view, lists_of, parts_at};
@@ -21,9 +21,9 @@ ghost use Rattle.view_meaning.specs.Reached.{reached};
 
 use crate::plain::row_tick;
 use depot_cell::Memory;
+use desc_types::{DRow, Delivery, Desc, END, Key, Kind, Span, Src, Table, Width};
 use partition_map::{Parts, dependents_of, part_of};
 use std::alloc::Global;
-use table_desc::{DRow, Delivery, Desc, END, Key, Kind, Span, Src, Table, Width};
 
 /// The partitions of views that deliveries reach, in order of key: those that stand above a
 /// partition of which they bring a row. The work is by the rows and by the partitions that they

@@ -4,8 +4,8 @@ ghost use Rattle.std.specs.Prelude.{◌≡◌};
 ghost use Rattle.std.specs.Ordering.{nat_cmp};
 ghost use Rattle.view_meaning.specs.Marks.{rank_of};
 
+use desc_types::Key;
 use std::cmp::Ordering;
-use table_desc::Key;
 
 /// How settled the rows of a partition are, from least to most.
 #[derive(Clone, Copy, Debug, PartialEq, Eq, PartialOrd, Ord)]

@@ -6,8 +6,8 @@ ghost use Rattle.depot_cli.specs.KeptJournals.{DrainsSome, IsKept};
 
 use crate::book::journal::Journal;
 use depot_cell::Memory;
+use desc_types::AcceptedDesc;
 use std::alloc::Global;
-use table_desc::AcceptedDesc;
 use view_meaning::{plain_value, reached_keys};
 
 /// Installs each partition of a view that is not settled, in order of key. These are the ones that

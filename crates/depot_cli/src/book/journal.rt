@@ -8,20 +8,20 @@ ghost use Rattle.std.specs.Prelude.{Some, ◌≡◌, ◌+◌, ◌∷◌, ◌++�
 ghost use Rattle.std.specs.Prelude.{option_copied, OnOk, OnErr, if◌then◌else◌};
 ghost use Rattle.std.specs.List.{list_any};
 ghost use Rattle.std.specs.Ordering.{is_eq};
-ghost use Rattle.table_desc.specs.declared.table.Key.{Key as KeyOf};
+ghost use Rattle.desc_types.specs.declared.table.Key.{Key as KeyOf};
 ghost use Rattle.view_meaning.specs.declared.journal.Entry.TheVariants as entry;
 ghost use Rattle.view_meaning.specs.Journal.{accepted, is_repeat, is_same};
 ghost use Rattle.view_meaning.specs.Drains.{with_install};
-ghost use Rattle.table_desc.specs.Keys.{key_cmp};
+ghost use Rattle.desc_types.specs.Keys.{key_cmp};
 ghost use Rattle.depot_cli.specs.KeptJournals.{latest_in, number_in};
 
 use crate::book::step::Step;
 use crate::book::version::Version;
 use crate::book::versions::Versions;
 use depot_cell::{Memory, Rows};
+use desc_types::{Delivery, Key};
 use std::alloc::Global;
 use std::marker::Model;
-use table_desc::{Delivery, Key};
 
 /// What was accepted and installed in this run, in order.
 #[derive(Debug, Drop)]

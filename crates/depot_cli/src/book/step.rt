@@ -1,6 +1,6 @@
 //! The steps of a journal, in their order.
 
-use table_desc::Key;
+use desc_types::Key;
 
 /// What an entry of the journal is. The deliveries of loads are kept apart, in the same order.
 #[derive(Clone, Copy, Debug, PartialEq, Eq)]

@@ -2,16 +2,16 @@
 
 ghost use Rattle.std.specs.Prelude.{Some, ◌≡◌, [], OnErr, OnOk, option_copied, if◌then◌else◌};
 ghost use Rattle.std.specs.Ordering.{is_eq};
-ghost use Rattle.table_desc.specs.declared.table.Key.{Key as KeyOf};
-ghost use Rattle.table_desc.specs.Keys.{key_cmp};
+ghost use Rattle.desc_types.specs.declared.table.Key.{Key as KeyOf};
+ghost use Rattle.desc_types.specs.Keys.{key_cmp};
 ghost use Rattle.depot_cli.specs.KeptJournals.{latest_in};
 
 use crate::book::version::Version;
 use depot_cell::Memory;
+use desc_types::Key;
 use std::alloc::Global;
 use std::collections::BTreeMap;
 use std::marker::Model;
-use table_desc::Key;
 
 /// The latest versions, by key.
 #[derive(Debug, Drop)]
@@ -21,7 +21,7 @@ pub struct Versions {
 
 impl Model for Versions {
     ghost use Rattle.std.specs.Prelude.{List};
-    ghost use Rattle.table_desc.specs.declared.table.Key.{Key as KeyOf};
+    ghost use Rattle.desc_types.specs.declared.table.Key.{Key as KeyOf};
     ghost use Rattle.depot_cli.specs.declared.book.version.Version.{Version as VersionOf};
 
     ghost Value = { List (KeyOf × VersionOf) };

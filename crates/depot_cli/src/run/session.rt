@@ -17,9 +17,9 @@ use crate::script::work::Work;
 use crate::script::{ScriptFault, next_work};
 use depot_cell::Memory;
 use depot_io::{LineReader, Sink, Source, put_all};
+use desc_types::AcceptedDesc;
 use std::alloc::Global;
 use std::mem;
-use table_desc::AcceptedDesc;
 
 /// Serves the session lines that a reader has left, up to the end of its input or to the word
 /// `end`. `base` is the place at which the reader's input begins.

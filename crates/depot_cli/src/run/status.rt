@@ -3,8 +3,8 @@
 ghost use Rattle.std.specs.Prelude.{◌≡◌, nat_le};
 ghost use Rattle.depot_cli.specs.Runs.{code_of};
 
+use desc_causes::DescCause;
 use std::fmt;
-use table_desc::DescCause;
 
 /// Why the input could not be read to its end.
 #[derive(Clone, Copy, Debug, PartialEq, Eq)]

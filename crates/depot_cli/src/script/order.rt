@@ -2,7 +2,7 @@
 
 ghost use Rattle.std.specs.Prelude.{◌≡◌, ◌<◌, ◌≤◌, ◌&&◌, length, map, slice_get, IfOk, IfSome};
 ghost use Rattle.std.specs.Str.{bytes_eq};
-ghost use Rattle.table_desc.specs.Sources.{width_of};
+ghost use Rattle.desc_types.specs.Sources.{width_of};
 ghost use Rattle.partition_map.specs.Time.{END as the_end};
 ghost use Rattle.partition_map.specs.Partitions.{parts_met};
 ghost use Rattle.desc_lines.specs.Words.{is_empty};
@@ -12,9 +12,9 @@ ghost use Rattle.depot_cli.specs.Orders.{sized};
 
 use depot_cell::{Memory, read_number};
 use desc_lines::{begins_comment, is_word, words_of};
+use desc_types::{AcceptedDesc, END, Width, find_feed, find_table};
 use partition_map::parts_of_span;
 use std::alloc::Global;
-use table_desc::{AcceptedDesc, END, Width, find_feed, find_table};
 use view_meaning::{Item, Mark};
 
 /// The most bytes of a body.
@@ -115,7 +115,7 @@ fn sized(head: Option<Head>, size: Option<u64>) -> Order
 fn head_of(served: &AcceptedDesc, feed: &[u8], number: &[u8], closes: &[u8]) -> Option<Head>
     ensures exact { result ≡ head_of served.now.desc feed.now number.now closes.now }
 {
-    let feed = find_feed(&served.desc, feed)?;
+    let feed = find_feed(served, feed)?;
     let number = number_below(1 << 32, number)? as u32;
     number_below(1, closes)?;
     Some(Head { feed, number })
@@ -142,7 +142,7 @@ fn asked(item: Option<Item>) -> Order
 fn item_read(served: &AcceptedDesc, table: &[u8], from: &[u8], to: &[u8]) -> Option<Item>
     ensures exact { result ≡ item_read served.now.desc table.now from.now to.now }
 {
-    let table = find_table(&served.desc, table)?;
+    let table = find_table(served, table)?;
     let from = number_below(END + 1, from)?;
     let to = number_below(END + 1, to)?;
     item_of(served, table, from, to)

@@ -1,6 +1,6 @@
 //! What one item of a script asks for, its body read.
 
-use table_desc::Delivery;
+use desc_types::Delivery;
 use view_meaning::Item;
 
 /// What one item of a script asks for.

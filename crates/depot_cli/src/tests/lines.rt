@@ -1,9 +1,10 @@
 //! Tests of session lines: what each asks for.
 
 use crate::script::order::{Head, Order, read_order};
+use desc_types::AcceptedDesc;
 use std::alloc::Global;
 use std::test::Fail;
-use table_desc::{AcceptedDesc, Draft};
+use table_desc::Draft;
 use view_meaning::{Item, Mark};
 
 /// A feed `f` and a raw table `r`.

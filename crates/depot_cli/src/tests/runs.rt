@@ -6,10 +6,10 @@ use super::{NONE, TRIAL, expect_end, expect_run, run_words};
 use crate::run::laws::{runs_are_complete, serial_is_legal};
 use crate::run::status::{InputEnd, Status};
 use depot_io::{Failed, NeverSource, Sink, Source};
+use desc_causes::DescCause;
 use std::alloc::Global;
 use std::cell::Cell;
 use std::test::Fail;
-use table_desc::DescCause;
 
 /// Inputs that end before a `go` line, and the places at which they do.
 static NO_GO: [(&[u8], u64); 4] = [

@@ -5,9 +5,10 @@ use crate::reply::texts::{part_text, refused_text};
 use crate::run::help::{print, text_asked};
 use crate::run::status::{InputEnd, Status};
 use depot_io::VecSink;
+use desc_causes::DescCause;
+use desc_types::Key;
 use std::alloc::Global;
 use std::test::Fail;
-use table_desc::{DescCause, Key};
 use view_meaning::{Mark, PinItem};
 
 /// The stored run shows each other text of a reply.

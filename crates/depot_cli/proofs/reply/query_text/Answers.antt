@@ -2,7 +2,7 @@
 use Rattle.std.proofs.Common.{◌≡◌, ◌++◌, ℕ, List, length, map, sym, ◌∙◌, ap}
 use Rattle.std.specs.Prelude.{flat_map}
 use Rattle.std.specs.List.{range_with_len}
-use Rattle.table_desc.specs.Tables.{TableOf}
+use Rattle.desc_types.specs.Tables.{TableOf}
 use Rattle.partition_map.specs.Partitions.{parts_met}
 use Rattle.view_meaning.specs.Shown.{ShownPart, shown_part}
 use Rattle.depot_cli.specs.Texts.{answer_line, shown_text}

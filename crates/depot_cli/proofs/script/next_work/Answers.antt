@@ -1,6 +1,6 @@
 -- What a line and its body say of the step: its work, or a fault.
 use Rattle.std.proofs.Common.{List, ℕ, ap, sym, ◌∙◌, ◌+◌, ◌≡◌}
-use Rattle.table_desc.specs.Descriptions.{DescOf}
+use Rattle.desc_types.specs.Descriptions.{DescOf}
 use Rattle.depot_cli.specs.declared.script.order.Order.{Order}
 use Rattle.depot_cli.specs.declared.script.order.Order.TheVariants as order
 use Rattle.depot_cli.specs.Orders.{order_of}

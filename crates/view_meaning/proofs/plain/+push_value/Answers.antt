@@ -1,6 +1,6 @@
 use Rattle.std.proofs.Common.{[], refl, sym, ap, arith}
-use Rattle.table_desc.specs.Tables.{TableOf}
-use Rattle.table_desc.specs.KindValues.{Filter, Group, Join}
+use Rattle.desc_types.specs.Tables.{TableOf}
+use Rattle.desc_types.specs.KindValues.{Filter, Group, Join}
 use Rattle.view_meaning.specs.Values.{value_within}
 use Rattle.view_meaning.proofs.ValueLemmas.{rows_of_run-push, value_within-view}
 use Rattle.view_meaning.proofs.plain.+push_value.Goals as goal

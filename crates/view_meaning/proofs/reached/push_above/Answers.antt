@@ -1,7 +1,7 @@
 use Rattle.std.proofs.Common.{◌≡◌, ap, refl, arith}
 use Rattle.std.proofs.lemmas.Result.{on_ok_weaker}
-use Rattle.table_desc.specs.Tables.{TableOf}
-use Rattle.table_desc.specs.KindValues.{Join}
+use Rattle.desc_types.specs.Tables.{TableOf}
+use Rattle.desc_types.specs.KindValues.{Join}
 use Rattle.view_meaning.specs.PartLists.{lists_of}
 use Rattle.view_meaning.proofs.ListLemmas.{BeginsWith-step}
 use Rattle.view_meaning.proofs.PartListLemmas.{Gains-both}

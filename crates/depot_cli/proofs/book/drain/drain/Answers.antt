@@ -1,10 +1,10 @@
 -- Each key is installed, and then all is settled.
 use Rattle.std.proofs.Common.{take_all, arith, refl, sym, ◌∙◌, ap, get_or, ℕ, List, ◌≡◌, take}
 use Rattle.std.specs.Prelude.{fold}
-use Rattle.table_desc.specs.declared.table.Key.{Key}
-use Rattle.table_desc.specs.Deliveries.{DeliveryOf}
-use Rattle.table_desc.specs.Descriptions.{DescOf}
-use Rattle.table_desc.specs.Sources.{HasEarlierSources}
+use Rattle.desc_types.specs.declared.table.Key.{Key}
+use Rattle.desc_types.specs.Deliveries.{DeliveryOf}
+use Rattle.desc_types.specs.Descriptions.{DescOf}
+use Rattle.desc_types.specs.Sources.{HasEarlierSources}
 use Rattle.depot_cli.specs.KeptJournals.{DrainsSome, IsKept, JournalOf}
 use Rattle.view_meaning.specs.declared.journal.Entry.{Entry}
 use Rattle.view_meaning.specs.Values.{value}

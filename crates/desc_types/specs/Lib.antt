@@ -1,0 +1,12 @@
+pub mod KindValues
+pub mod Kinds
+pub mod Tables
+pub mod Descriptions
+pub mod Deliveries
+pub mod Keys
+pub mod Sources
+pub mod Served
+pub mod Lookups
+pub mod Columns
+pub mod Accepted
+pub mod AcceptedProps

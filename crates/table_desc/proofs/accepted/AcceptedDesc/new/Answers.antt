@@ -1,8 +1,0 @@
-use Rattle.table_desc.proofs.ServedLemmas.{accepted-served}
-use Rattle.table_desc.proofs.accepted.AcceptedDesc.new.Goals as goal
-
-pub invariant_of-result : goal.invariant_of-result
-invariant_of-result c = record {
-  is_accepted = c.requires.accepted;
-  is_served = accepted-served c.args.desc c.requires.accepted;
-}

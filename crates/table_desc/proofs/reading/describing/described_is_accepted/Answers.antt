@@ -1,5 +1,0 @@
-use Rattle.table_desc.proofs.AcceptedLemmas.{described-accepted}
-use Rattle.table_desc.proofs.reading.describing.described_is_accepted.Goals as goal
-
-pub returns : goal.returns
-returns c = record { law = described-accepted }

@@ -1,5 +1,0 @@
-use Rattle.table_desc.proofs.DraftLemmas.{drafted-described}
-use Rattle.table_desc.proofs.reading.draft.texts_are_drafted.Goals as goal
-
-pub returns : goal.returns
-returns c = record { law = drafted-described }
