@@ -7,6 +7,8 @@
 #[cfg(test)]
 mod bodies;
 #[cfg(test)]
+mod canonical;
+#[cfg(test)]
 mod cells;
 #[cfg(test)]
 mod descriptions;

@@ -11,17 +11,18 @@ use Rattle.desc_lines.specs.LineTexts.{line_text}
 use Rattle.desc_lines.specs.Written.{WrittenAggOf, WrittenColumnOf, WrittenCondOf, WrittenKindOf}
 use Rattle.desc_lines.specs.Written.{WrittenLineOf, WrittenPairOf, WrittenSourceOf, WrittenTableOf}
 use Rattle.desc_lines.specs.Written as written
-use Rattle.table_desc.specs.declared.table.Column.{Column}
-use Rattle.table_desc.specs.declared.table.Feed.{Feed}
-use Rattle.table_desc.specs.declared.view.Agg.{Agg}
-use Rattle.table_desc.specs.declared.view.Cond.{Cond}
-use Rattle.table_desc.specs.declared.view.Pair.{Pair}
-use Rattle.table_desc.specs.declared.view.Src.{Src}
+use Rattle.desc_types.specs.declared.table.Column.{Column}
+use Rattle.desc_types.specs.declared.table.Feed.{Feed}
+use Rattle.desc_types.specs.declared.view.Agg.{Agg}
+use Rattle.desc_types.specs.declared.view.Cond.{Cond}
+use Rattle.desc_types.specs.declared.view.Pair.{Pair}
+use Rattle.desc_types.specs.declared.view.Src.{Src}
 use Rattle.table_desc.specs.Described.{described}
-use Rattle.table_desc.specs.Descriptions.{DescOf}
-use Rattle.table_desc.specs.KindValues.{KindOf, Raw, Filter, Group, Join}
-use Rattle.table_desc.specs.Lookups.{table_columns}
-use Rattle.table_desc.specs.Tables.{TableOf}
+use Rattle.desc_types.specs.Accepted.{IsAccepted}
+use Rattle.desc_types.specs.Descriptions.{DescOf}
+use Rattle.desc_types.specs.KindValues.{KindOf, Raw, Filter, Group, Join}
+use Rattle.desc_types.specs.Lookups.{table_columns}
+use Rattle.desc_types.specs.Tables.{TableOf}
 
 -- a name, if there is one
 abbrev pub or_nothing : Option (List ℕ) → List ℕ
@@ -121,7 +122,6 @@ written_lines desc = map feed_line desc.feeds ++ map (table_line desc) desc.tabl
 abbrev pub canonical : DescOf → List ℕ
 canonical desc = flat_map line_text (written_lines desc)
 
--- what a text declares is declared by its canonical text again
+-- an accepted description is declared by its canonical text again
 abbrev pub DeclaresAgain : Type 0
-DeclaresAgain = (text : List ℕ) (desc : DescOf) → described text ≡ Ok desc
-    → described (canonical desc) ≡ Ok desc
+DeclaresAgain = (desc : DescOf) → IsAccepted desc → described (canonical desc) ≡ Ok desc

@@ -1,27 +1,19 @@
-//! What a description declares, what a delivery brings, and the reading of descriptions.
+//! Descriptions from their lines and back: what the lines of a text declare, or the first bad line
+//! and why it is bad, and the text that declares a description again.
 //!
-//! A description lists feeds and tables. A table is raw, filled by the deliveries of one feed, or
-//! a view over tables that were declared before it. Feeds, tables and columns go by their
-//! numbers, from 0 in the order in which they were declared. Time is counted in ticks below
-//! [`END`].
+//! What a description is stands in `desc_types`, the shapes of lines in `desc_lines`, and the tests
+//! that find a line bad in `desc_causes`. Here lines are put together to a description.
 #![tactic(auto)]
 
-mod accepted;
-mod delivery;
-mod field;
-mod lookups;
-mod reading;
-mod table;
-mod view;
+mod columns;
+mod declaring;
+mod describing;
+mod draft;
+mod fault;
+mod parts;
+mod writing;
 
-pub use accepted::AcceptedDesc;
-pub use delivery::{DRow, Delivery};
-pub use desc_lines::Fun;
-pub use field::field_cell;
-pub use lookups::{find_feed, find_table};
-pub use partition_map::{END, Span, Width};
-pub use reading::{
-    BadLine, DescCause, DescFault, Draft, described_is_accepted, read_desc, texts_are_drafted,
-};
-pub use table::{Column, Desc, Feed, Key, Table, compare_keys};
-pub use view::{Agg, Cond, Kind, Pair, Src};
+pub use describing::{described_is_accepted, read_desc};
+pub use draft::{Draft, texts_are_drafted};
+pub use fault::{BadLine, DescFault};
+pub use writing::{accepted_is_declared_again, write_desc};
