@@ -2,8 +2,7 @@
 
 ghost use Rattle.std.specs.Prelude.{◌≡◌, is_none};
 ghost use Rattle.std.specs.List.{list_any};
-ghost use Rattle.std.specs.Str.{bytes_eq};
-ghost use Rattle.desc_lines.specs.Written.{WrittenAggOf, WrittenColumnOf, WrittenCondOf};
+ghost use Rattle.desc_lines.specs.Written.{WrittenAggOf, WrittenCondOf};
 ghost use Rattle.desc_lines.specs.WrittenKinds.{written_kind};
 ghost use Rattle.desc_causes.specs.Causes.{is_absent, lacks, lacks_column, lacks_feed, lacks_side};
 ghost use Rattle.desc_causes.specs.Causes.{lacks_some, lacks_source};

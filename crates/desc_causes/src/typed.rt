@@ -13,7 +13,7 @@ ghost use Rattle.desc_types.specs.Lookups.{read_type};
 use crate::utf8::is_utf8;
 use crate::written::written_place;
 use depot_cell::{Ty, read_cell};
-use desc_lines::{WrittenAgg, WrittenColumn, WrittenCond, WrittenKind, WrittenPair, is_word};
+use desc_lines::{WrittenAgg, WrittenColumn, WrittenCond, WrittenKind, WrittenPair};
 use desc_types::{Column, Desc, Fun, find_type, read_type, source_columns};
 use std::alloc::Global;
 

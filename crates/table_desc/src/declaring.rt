@@ -9,7 +9,7 @@ ghost use Rattle.desc_lines.specs.WrittenKinds.{written_kind};
 ghost use Rattle.desc_lines.specs.WrittenLines.{written_line};
 ghost use Rattle.desc_causes.specs.Causes.{cause_of};
 ghost use Rattle.table_desc.specs.Declarations.{column_number, declared_filling, declared_filter};
-ghost use Rattle.table_desc.specs.Declarations.{declared_group, declared_join, declared_table};
+ghost use Rattle.table_desc.specs.Declarations.{declared_group, declared_table};
 ghost use Rattle.table_desc.specs.Declarations.{found, with_declared, with_feed};
 ghost use Rattle.table_desc.specs.Declarations.{with_table, IsReady};
 ghost use Rattle.desc_types.specs.Lookups.{find_feed};

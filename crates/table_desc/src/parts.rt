@@ -4,22 +4,13 @@
 //! Nothing is refused here. The causes were tested before, so that all names are found.
 
 ghost use Rattle.std.specs.Prelude.{◌≡◌, ◌≤◌, ◌++◌, [], length, map, filter_map, true, All, IfOk, OnOk};
-ghost use Rattle.std.specs.Prelude.{◌<◌, option_map, position, slice_get, IfSome};
 ghost use Rattle.std.specs.List.{cons_option};
-ghost use Rattle.std.specs.Str.{IsUtf8, bytes_eq};
 ghost use Rattle.desc_lines.specs.Names.{is_name};
-ghost use Rattle.desc_lines.specs.Written.{WrittenAggOf, WrittenColumnOf};
-ghost use Rattle.table_desc.specs.Declarations.{agg_column, column_number};
-ghost use Rattle.desc_types.specs.Columns.{agg_type, computed_type};
-ghost use Rattle.table_desc.specs.Declarations.{declared_agg, declared_column, declared_cond};
-ghost use Rattle.table_desc.specs.Declarations.{declared_pair, declared_source};
-ghost use Rattle.desc_types.specs.Columns.{joined_columns};
-ghost use Rattle.desc_types.specs.Columns.{kept_columns, prefixed};
-ghost use Rattle.table_desc.specs.Declarations.{found, number_over, time_number};
+ghost use Rattle.desc_lines.specs.Written.{WrittenColumnOf};
 ghost use Rattle.desc_types.specs.Lookups.{find_table};
-ghost use Rattle.table_desc.specs.Declarations.{value_of};
-ghost use Rattle.desc_types.specs.declared.table.Column.{Column as ColumnOf};
-ghost use Rattle.table_desc.specs.Declarations.{LeavesRoom};
+ghost use Rattle.table_desc.specs.Declarations.{column_number, declared_agg, declared_column};
+ghost use Rattle.table_desc.specs.Declarations.{declared_cond, declared_pair, declared_source, found};
+ghost use Rattle.table_desc.specs.Declarations.{time_number, value_of};
 
 use depot_cell::{Cell, Memory, Str, Ty};
 use desc_causes::{read_span, written_place};

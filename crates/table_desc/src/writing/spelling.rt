@@ -113,7 +113,7 @@ pub fn table_columns(desc: &Desc, number: u16) -> &[Column]
     }
 }
 
-/// The columns behind the first so many.
+/// The columns after the first so many.
 pub fn columns_from(columns: &[Column], number: usize) -> &[Column]
     ensures exact { result.now ≡ drop number columns.now }
 {
