@@ -31,9 +31,9 @@ use Rattle.table_desc.proofs.NoCauseColumnLemmas.{is_odd_pair-pairs, is_text_sum
 use Rattle.table_desc.proofs.NoCauseColumnLemmas.{lacks-filter, lacks-group, lacks_side-pairs}
 use Rattle.table_desc.proofs.NoCauseColumnLemmas.{or-fails}
 use Rattle.table_desc.proofs.NoCauseNameLemmas.{is_name-group, is_name-raw, names-filter}
-use Rattle.table_desc.proofs.NoCauseNameLemmas.{names-group, names-raw, read_type-raw}
+use Rattle.table_desc.proofs.NoCauseNameLemmas.{names-group, read_type-raw}
 use Rattle.table_desc.proofs.NoCauseNameLemmas.{is_text-raw}
-use Rattle.table_desc.proofs.SameTableLemmas.{written_place-spelled}
+use Rattle.table_desc.proofs.SameTableLemmas.{written-names, written_place-spelled}
 use Rattle.table_desc.proofs.NoCauseSourceLemmas.{IsKnown, IsKnown-placed, IsPlaced, before}
 use Rattle.table_desc.proofs.NoCauseSourceLemmas.{lacks_source-placed}
 
@@ -67,7 +67,7 @@ IsFineKind-raw : (desc : DescOf) (number : ℕ) (table : TableOf) (feed time : �
     → IsFineKind (before desc number) (kind_spelled desc table.columns (Raw feed time))
 IsFineKind-raw desc number table feed time placed =
     let own = table.columns in
-    let names = names-raw own in
+    let names = written-names own in
     let within = column_type-within own time ty.Int placed.fills.int in
     record {
       named = is_name-raw own placed.fills.named;

@@ -31,12 +31,7 @@ is_name-columns columns each =
     list_any-map-none (λ (column : Column). column.name) (λ name. not (is_name name)) IsNamed
     columns (λ column named. ap not named) each
 
--- the columns of a raw table's line
-pub names-raw : (own : List Column)
-    → map (λ (column : WrittenColumnOf). column.name) (map column_spelled own) ≡ column_names own
-names-raw [] = refl
-names-raw (column ∷ others) = ap (λ names. column.name ∷ names) (names-raw others)
-
+-- the columns of a raw table's line have names
 pub is_name-raw : (own : List Column) → All IsNamed own
     → list_any (λ (column : WrittenColumnOf). not (is_name column.name)) (map column_spelled own)
     ≡ false

@@ -26,7 +26,6 @@ use Rattle.desc_types.specs.Lookups.{source_columns, table_columns}
 use Rattle.desc_types.specs.Accepted.{Computes, IsAccepted, IsCond, IsFilter, IsGroup, IsJoin}
 use Rattle.desc_types.specs.Accepted.{IsKind, IsPair, IsRaw, IsSource, column_names, column_type}
 use Rattle.desc_types.specs.Accepted.{column_types}
-use Rattle.desc_types.proofs.ListLemmas.{option_map-some}
 use Rattle.desc_causes.specs.Causes.{written_place}
 use Rattle.table_desc.specs.Canonical.{aggs_spelled, column_name, column_spelled, cond_spelled}
 use Rattle.table_desc.specs.Canonical.{kind_spelled, over_spelled, pair_spelled, source_spelled}
@@ -41,6 +40,7 @@ use Rattle.table_desc.proofs.PrefixLemmas.{find_table-prefix, find_type-named, p
 use Rattle.table_desc.proofs.PrefixLemmas.{prefix, source_columns-prefix, table_columns-different}
 use Rattle.table_desc.proofs.SpelledNumberLemmas.{read_span-spelled, read_type-spelled}
 use Rattle.table_desc.proofs.SpelledNumberLemmas.{read_width-decimal, value_of-spelled}
+use Rattle.table_desc.proofs.SpelledPartLemmas.{column_type-within}
 
 -- a list of which each item comes back is made again
 pub map-back : {X Y : Type 0} (P : X → Type 0) (out : X → Y) (back : Y → X) (xs : List X)
@@ -63,13 +63,6 @@ filter_map-back P out back (x ∷ xs) each all = rw (
       (λ index default within. all (suc index) default (omega (arith, within))),
 ) refl
 
--- what is said of a column's type is said of a column that is there
-column_type-within : (columns : List Column) (number : ℕ) (of : Ty)
-    → column_type columns number ≡ Some of → number < length columns
-column_type-within columns number of is =
-    option_map-some (λ (column : Column). column.ty) (slice_get columns number) of is
-    (λ column there typed. slice_get_within columns number column there)
-
 -- the columns of a raw table
 declared_columns-spelled : (columns : List Column)
     → map declared_column (map column_spelled columns) ≡ columns
@@ -78,7 +71,7 @@ declared_columns-spelled (column ∷ columns) =
     rw (read_type-spelled column.ty, declared_columns-spelled columns) refl
 
 -- their names stay
-written-names : (columns : List Column)
+pub written-names : (columns : List Column)
     → map (λ (column : WrittenColumnOf). column.name) (map column_spelled columns)
     ≡ column_names columns
 written-names [] = refl
