@@ -1,10 +1,9 @@
 -- Lemmas on the rows of a body: cells and rows are read from the front, and `with_front` puts
 -- what was read before what the rest is.
 use Rattle.std.proofs.Common.{◌≡◌, ◌∙◌, ◌+◌, ◌<◌, ◌≤◌, ◌∷◌, ◌++◌, [], ℕ, zero, suc, List, Option}
-use Rattle.std.proofs.Common.{Some, None, Bool, drop, get_or, length, refl, sym, ap, true, false}
-use Rattle.std.proofs.Common.{arith}
-use Rattle.std.specs.Prelude.{option_map, slice_get}
-use Rattle.std.specs.Result.{result_ok}
+use Rattle.std.proofs.Common.{Some, None, Ok, Err, Bool, drop, get_or, length, refl, sym, ap}
+use Rattle.std.proofs.Common.{nat_eq, true, false, arith}
+use Rattle.std.specs.Prelude.{Result, slice_get}
 use Rattle.std.proofs.lemmas.List.{append-nil, drop_more}
 use Rattle.csv.specs.Reading.{ReadRecord}
 use Rattle.csv.specs.Records.{field_at}
@@ -16,21 +15,14 @@ use Rattle.desc_types.specs.declared.table.Column.{Column}
 use Rattle.desc_types.specs.declared.delivery.DRow.{DRow}
 use Rattle.desc_types.specs.Descriptions.{DescOf}
 use Rattle.desc_types.specs.Tables.{TableOf}
-use Rattle.feed_csv.specs.Bodies.{cells_of, find_raw_table, has_header, records_of, row_of}
-use Rattle.feed_csv.specs.Bodies.{rows_from, rows_of, table_cells, without_header}
-use Rattle.feed_csv.specs.Front.{with_first}
-use Rattle.feed_csv.proofs.FrontLemmas.{with_first-none, with_front, with_front-push}
-use Rattle.feed_csv.proofs.FrontLemmas.{with_front-empty}
+use Rattle.feed_csv.specs.declared.fault.BadRecord.{BadRecord}
+use Rattle.feed_csv.specs.declared.fault.RowCause.{RowCause}
+use Rattle.feed_csv.specs.declared.fault.RowCause.TheVariants as cause
+use Rattle.feed_csv.specs.Bodies.{cell_read, cells_from, cells_of, find_raw_table, has_header}
+use Rattle.feed_csv.specs.Bodies.{numbered, placed, records_of, row_of, rows_from, rows_of}
+use Rattle.feed_csv.specs.Bodies.{table_cells, then_more, without_header}
+use Rattle.feed_csv.proofs.FrontLemmas.{with_front, with_front-push, with_front-empty}
 use Rattle.feed_csv.proofs.CsvRecords.{Yields, Yields-empty, Yields-step, records-le}
-
--- as many cells as columns, or none
-pub cells_of-none : (columns : List Column) (fields : List (List ℕ))
-    → (length columns ≡ length fields → ⊥) → cells_of columns fields ≡ None
-cells_of-none [] [] differ = absurd (differ refl)
-cells_of-none [] (_ ∷ _) differ = refl
-cells_of-none (_ ∷ _) [] differ = refl
-cells_of-none (column ∷ columns) (field ∷ fields) differ =
-    rw (cells_of-none columns fields (λ same. differ (ap suc same))) (with_first-none _)
 
 -- a field after the first
 pub field_at-drop : (fields : List (List ℕ)) (place : ℕ)
@@ -53,45 +45,49 @@ drop-step (first ∷ fields) (suc place) field there =
     rw next (drop-step fields place field there)
 
 -- the cells from a place on: that of the field there, and those after it
-cells_of-step : (columns : List Column) (fields : List (List ℕ)) (place : ℕ) (column : Column)
-    (field : List ℕ)
+cells_from-step : (time : ℕ) (columns : List Column) (fields : List (List ℕ)) (place : ℕ)
+    (column : Column) (field : List ℕ)
     → place < length columns → get_or columns place column ≡ column
     → field_at fields place ≡ Some field
-    → cells_of (drop place columns) (drop place fields)
-    ≡ with_first (result_ok (cell_of column.ty field))
-    (cells_of (drop (place + 1) columns) (drop (place + 1) fields))
-cells_of-step columns fields place column field within here there =
+    → cells_from time place (drop place columns) (drop place fields)
+    ≡ then_more (cell_read (nat_eq place time) (cell_of column.ty field))
+    (cells_from time (place + 1) (drop (place + 1) columns) (drop (place + 1) fields))
+cells_from-step time columns fields place column field within here there =
     let columns_here = drop_more columns place column within in
     rw (columns_here, here, drop-step fields place field there) refl
 
 -- what was read before a place, with what is from there on, is the whole
-pub record ReadsCells (columns : List Column) (fields : List (List ℕ)) (place : ℕ)
+pub record ReadsCells (time : ℕ) (columns : List Column) (fields : List (List ℕ)) (place : ℕ)
     (cells : List Cell) : Type 0 where
-  pub whole : with_front cells (cells_of (drop place columns) (drop place fields))
-      ≡ cells_of columns fields
+  pub whole : with_front cells (cells_from time place (drop place columns) (drop place fields))
+      ≡ cells_of time columns fields
+
+-- nothing was read at the start, if there are as many fields as columns
+pub ReadsCells-start : (time : ℕ) (columns : List Column) (fields : List (List ℕ))
+    → nat_eq (length fields) (length columns) ≡ true → ReadsCells time columns fields 0 []
+ReadsCells-start time columns fields many =
+    record { whole = with_front-empty _ ∙ sym (rw many refl) }
 
 -- a field that is a cell adds it
-pub ReadsCells-push : (columns : List Column) (fields : List (List ℕ)) (place : ℕ)
-    (cells : List Cell)
-    (column : Column) (field : List ℕ) (cell : Cell)
-    → ReadsCells columns fields place cells → place < length columns
-    → get_or columns place column ≡ column
-    → field_at fields place ≡ Some field → Some cell ≡ result_ok (cell_of column.ty field)
-    → ReadsCells columns fields (place + 1) (cells ++ cell ∷ [])
-ReadsCells-push columns fields place cells column field cell before within here there is_cell =
-    let step = cells_of-step columns fields place column field within here there in
+pub ReadsCells-push : (time : ℕ) (columns : List Column) (fields : List (List ℕ)) (place : ℕ)
+    (cells : List Cell) (column : Column) (field : List ℕ) (cell : Cell)
+    → ReadsCells time columns fields place cells → place < length columns
+    → get_or columns place column ≡ column → field_at fields place ≡ Some field
+    → Ok cell ≡ cell_read (nat_eq place time) (cell_of column.ty field)
+    → ReadsCells time columns fields (place + 1) (cells ++ cell ∷ [])
+ReadsCells-push time columns fields place cells column field cell before within here there is_cell =
+    let step = cells_from-step time columns fields place column field within here there in
     record { whole = sym (with_front-push cells cell _) ∙ rw (step, ← is_cell) at before.whole }
 
--- a field that is no cell makes the whole none
-pub ReadsCells-none : (columns : List Column) (fields : List (List ℕ)) (place : ℕ)
-    (cells : List Cell)
-    (column : Column) (field : List ℕ)
-    → ReadsCells columns fields place cells → place < length columns
-    → get_or columns place column ≡ column
-    → field_at fields place ≡ Some field → None ≡ result_ok (cell_of column.ty field)
-    → None ≡ cells_of columns fields
-ReadsCells-none columns fields place cells column field before within here there no_cell =
-    let step = cells_of-step columns fields place column field within here there in
+-- a field that is no cell makes the whole none, for its cause
+pub ReadsCells-bad : (time : ℕ) (columns : List Column) (fields : List (List ℕ)) (place : ℕ)
+    (cells : List Cell) (column : Column) (field : List ℕ) (cause : RowCause)
+    → ReadsCells time columns fields place cells → place < length columns
+    → get_or columns place column ≡ column → field_at fields place ≡ Some field
+    → Err cause ≡ cell_read (nat_eq place time) (cell_of column.ty field)
+    → Err cause ≡ cells_of time columns fields
+ReadsCells-bad time columns fields place cells column field cause before within here there no_cell =
+    let step = cells_from-step time columns fields place column field within here there in
     rw (step, ← no_cell) at before.whole
 
 -- a record with a first field
@@ -104,7 +100,7 @@ field_at-first (first ∷ fields) name there = cc there
 -- a record with no field is no row
 pub row_of-empty : (desc : DescOf) (feed number : ℕ) (fields : List (List ℕ))
     → None ≡ field_at fields 0
-    → None ≡ row_of desc feed number fields
+    → Err cause.NoTable ≡ row_of desc feed number fields
 unfolding field_at
 row_of-empty desc feed number [] none = refl
 row_of-empty desc feed number (first ∷ fields) none = cc none
@@ -112,23 +108,23 @@ row_of-empty desc feed number (first ∷ fields) none = cc none
 -- a record whose first field names no raw table of the feed is no row
 pub row_of-none : (desc : DescOf) (feed number : ℕ) (fields : List (List ℕ)) (name : List ℕ)
     → Some name ≡ field_at fields 0 → None ≡ find_raw_table desc feed name
-    → None ≡ row_of desc feed number fields
+    → Err cause.NoTable ≡ row_of desc feed number fields
 row_of-none desc feed number fields name there none =
     rw (field_at-first fields name there, ← none) refl
 
 -- a record whose first field names a raw table is the row that its other fields are there
 pub row_of-named : (desc : DescOf) (feed number : ℕ) (fields : List (List ℕ)) (name : List ℕ)
-    (table : ℕ) (declared : TableOf) (cells : Option (List Cell))
+    (table : ℕ) (declared : TableOf) (cells : Result (List Cell) RowCause)
     → Some name ≡ field_at fields 0 → Some table ≡ find_raw_table desc feed name
     → slice_get desc.tables table ≡ Some declared
     → cells ≡ table_cells (Some declared) (drop 1 fields)
-    → option_map (λ cells. record { number = number; table = table; cells = cells }) cells
-    ≡ row_of desc feed number fields
+    → numbered number table cells ≡ row_of desc feed number fields
 row_of-named desc feed number fields name table declared cells there named found read =
     rw (read, field_at-first fields name there, ← named, found) refl
 
 -- the rows that records are, numbered from here on, where record 0 is a header
-abbrev numbered_rows : DescOf → (feed number : ℕ) → List (List (List ℕ)) → Option (List DRow)
+abbrev numbered_rows : DescOf → (feed number : ℕ) → List (List (List ℕ))
+    → Result (List DRow) BadRecord
 numbered_rows desc feed zero records = rows_from desc feed 1 (drop 1 records)
 numbered_rows desc feed (suc before) records = rows_from desc feed (suc before) records
 
@@ -151,7 +147,7 @@ numbered_rows-start desc feed true records same = rw (← same) refl
 numbered_rows-start desc feed false records same = rw (← same) refl
 
 -- no records are no rows
-numbered_rows-empty : (desc : DescOf) (feed number : ℕ) → numbered_rows desc feed number [] ≡ Some []
+numbered_rows-empty : (desc : DescOf) (feed number : ℕ) → numbered_rows desc feed number [] ≡ Ok []
 numbered_rows-empty desc feed zero = refl
 numbered_rows-empty desc feed (suc before) = refl
 
@@ -160,7 +156,8 @@ numbered_rows-step : (desc : DescOf) (feed number : ℕ) (fields : List (List �
     (others : List (List (List ℕ)))
     → 0 < number
     → numbered_rows desc feed number (fields ∷ others)
-    ≡ with_first (row_of desc feed number fields) (numbered_rows desc feed (number + 1) others)
+    ≡ then_more (placed number (row_of desc feed number fields))
+    (numbered_rows desc feed (number + 1) others)
 numbered_rows-step desc feed zero fields others some = absurd (omega arith)
 numbered_rows-step desc feed (suc before) fields others some =
     let next : suc before + 1 ≡ suc (suc before) = omega arith in
@@ -214,7 +211,7 @@ pub ReadsRows-push : {R : Type 0} (rem : R → Option (List ℕ)) (desc : DescOf
     (old new : Reader R) (number : ℕ) (rows : List DRow) (fields : List (List ℕ)) (row : DRow)
     → 0 < number → ReadsRows rem desc feed body old number rows
     → ReadRecord rem old new true fields → took_first new ≡ true
-    → Some row ≡ row_of desc feed number fields
+    → Ok row ≡ row_of desc feed number fields
     → ReadsRows rem desc feed body new (number + 1) (rows ++ row ∷ [])
 ReadsRows-push rem desc feed body old new number rows fields row some before read took is_row =
     let more = Yields-step rem old new fields before.rest before.yields read took in
@@ -228,25 +225,27 @@ ReadsRows-push rem desc feed body old new number rows fields row some before rea
           ∙ rw (more.first, step, ← is_row) at before.whole;
     }
 
--- a record that is no row makes the whole none
-pub ReadsRows-none : {R : Type 0} (rem : R → Option (List ℕ)) (desc : DescOf) (feed : ℕ)
+-- a record that is no row makes the whole none: it is the first one
+pub ReadsRows-bad : {R : Type 0} (rem : R → Option (List ℕ)) (desc : DescOf) (feed : ℕ)
     (body : List ℕ)
     (old new : Reader R) (number : ℕ) (rows : List DRow) (fields : List (List ℕ))
+    (cause : RowCause)
     → 0 < number → ReadsRows rem desc feed body old number rows
     → ReadRecord rem old new true fields → took_first new ≡ true
-    → None ≡ row_of desc feed number fields → None ≡ rows_of desc feed body
-ReadsRows-none rem desc feed body old new number rows fields some before read took no_row =
+    → Err cause ≡ row_of desc feed number fields
+    → rows_of desc feed body ≡ Err (record { number = number; cause = cause })
+ReadsRows-bad rem desc feed body old new number rows fields cause some before read took no_row =
     let more = Yields-step rem old new fields before.rest before.yields read took in
     let step = numbered_rows-step desc feed number fields more.others some in
-    rw (more.first, step, ← no_row) at before.whole
+    sym (rw (more.first, step, ← no_row) at before.whole)
 
 -- if no record is left the rows are the whole
 pub ReadsRows-empty : {R : Type 0} (rem : R → Option (List ℕ)) (desc : DescOf) (feed : ℕ)
     (body : List ℕ)
     (old new : Reader R) (number : ℕ) (rows : List DRow) (fields : List (List ℕ))
     → ReadsRows rem desc feed body old number rows → ReadRecord rem old new false fields
-    → Some rows ≡ rows_of desc feed body
+    → rows_of desc feed body ≡ Ok rows
 ReadsRows-empty rem desc feed body old new number rows fields before read =
     let none = Yields-empty rem old new fields before.rest before.yields read in
-    ap Some (sym (append-nil rows))
-    ∙ rw (none, numbered_rows-empty desc feed number) at before.whole
+    sym (rw (none, numbered_rows-empty desc feed number) at before.whole)
+    ∙ ap Ok (append-nil rows)

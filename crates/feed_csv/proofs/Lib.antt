@@ -2,4 +2,5 @@ pub mod ListLemmas
 pub mod FrontLemmas
 pub mod CsvRecords
 pub mod BodyLemmas
+pub mod NamedLemmas
 pub mod RowLemmas

@@ -5,4 +5,4 @@ use Rattle.feed_csv.proofs.BodyLemmas.{ReadsCells}
 use Rattle.feed_csv.proofs.body.read_cells.Given as goal
 
 abbrev pub invariant-loop-place : goal.invariant-loop-place
-invariant-loop-place l = ReadsCells l.columns (drop 1 (fields_of l.fields)) l.place l.cells
+invariant-loop-place l = ReadsCells l.time l.columns (drop 1 (fields_of l.fields)) l.place l.cells

@@ -1,8 +1,8 @@
-use Rattle.std.proofs.Common.{◌≡◌, ◌∙◌, ◌++◌, ◌∷◌, [], Some, ap, true, false, arith}
+use Rattle.std.proofs.Common.{◌≡◌, ◌∙◌, ◌++◌, ◌∷◌, [], Ok, ap, sym, true, false, arith}
 use Rattle.std.proofs.lemmas.Grind.{common_steps}
 use Rattle.csv.specs.Records.{fields_of}
 use Rattle.feed_csv.proofs.CsvRecords.{Yields-start}
-use Rattle.feed_csv.proofs.BodyLemmas.{ReadsRows-none, ReadsRows-empty, ReadsRows-push}
+use Rattle.feed_csv.proofs.BodyLemmas.{ReadsRows-bad, ReadsRows-empty, ReadsRows-push}
 use Rattle.feed_csv.proofs.BodyLemmas.{ReadsRows-skip, ReadsRows-start}
 use Rattle.feed_csv.proofs.body.read_records.Goals as goal
 use Rattle.feed_csv.proofs.body.read_records.Goals.{then-has_header, else-has_header}
@@ -26,21 +26,21 @@ returns-in-Ok-false c =
     let read = rw c.in-Ok-false.field-0-test
     at (c.in-Ok-false.ensures.reads before.yields.plain before.yields.ready) in
     record {
-      exact = ap Some c.shrink_to_fit.ensures.items
-          ∙ ReadsRows-empty _ _ _ _ c.loop-number.reader c.read_byte_record.new.self _ _
-          (fields_of c.read_byte_record.new.row) before read;
+      exact = ReadsRows-empty _ _ _ _ c.loop-number.reader c.read_byte_record.new.self _ _
+          (fields_of c.read_byte_record.new.row) before read
+          ∙ ap Ok (sym c.shrink_to_fit.ensures.items);
     }
 
-pub returns-in-None : goal.returns-in-None
-returns-in-None c =
+pub returns-in-Err-2 : goal.returns-in-Err-2
+returns-in-Err-2 c =
     let before = c.loop-number.invariant in
     let read = rw c.in-Ok-true.field-0-test
     at (c.in-Ok-true.ensures.reads before.yields.plain before.yields.ready) in
     record {
-      exact = ReadsRows-none _ _ _ _ c.loop-number.reader c.read_byte_record.new.self _ _
-          (fields_of c.read_byte_record.new.row) (omega arith) before read
+      exact = ReadsRows-bad _ _ _ _ c.loop-number.reader c.read_byte_record.new.self _ _
+          (fields_of c.read_byte_record.new.row) c.in-Err-2.cause (omega arith) before read
           (c.in-Ok-true.ensures.ready before.yields.plain)
-          (rw c.in-None.is at c.in_ok-row.ensures.exact);
+          (rw c.in-Err-2.is at c.in_ok-row.ensures.exact);
     }
 
 pub loop-number-preserved-then-number-eq0 : goal.loop-number-preserved-then-number-eq0
@@ -57,9 +57,9 @@ loop-number-preserved c =
     let before = c.loop-number.invariant in
     let read = rw c.in-Ok-true.field-0-test
     at (c.in-Ok-true.ensures.reads before.yields.plain before.yields.ready) in
-    let pushed : c.push.new.self.items ≡ c.loop-number.rows.items ++ c.in-Some.row ∷ [] =
+    let pushed : c.push.new.self.items ≡ c.loop-number.rows.items ++ c.in-Ok.row ∷ [] =
     grind (arith, common_steps) in
     rw pushed (ReadsRows-push _ _ _ _ c.loop-number.reader c.read_byte_record.new.self _ _
-    (fields_of c.read_byte_record.new.row) c.in-Some.row (omega arith) before read
+    (fields_of c.read_byte_record.new.row) c.in-Ok.row (omega arith) before read
     (c.in-Ok-true.ensures.ready before.yields.plain)
-    (rw c.in-Some.is at c.in_ok-row.ensures.exact))
+    (rw c.in-Ok.is at c.in_ok-row.ensures.exact))

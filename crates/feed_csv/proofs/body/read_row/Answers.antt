@@ -1,4 +1,4 @@
-use Rattle.std.proofs.Common.{Some, None, length, ap, arith}
+use Rattle.std.proofs.Common.{Ok, Err, length, ap, arith}
 use Rattle.csv.specs.Records.{fields_of}
 use Rattle.feed_csv.proofs.BodyLemmas.{field_at-first, row_of-empty, row_of-named, row_of-none}
 use Rattle.feed_csv.proofs.body.read_row.Goals as goal
@@ -9,11 +9,11 @@ returns-in_default c = record {
       (fields_of c.args.fields.now) (rw c.in_default.is at c.get.ensures.value);
 }
 
-pub returns-in_default-find_raw_table : goal.returns-in_default-find_raw_table
-returns-in_default-find_raw_table c = record {
+pub returns-in_default-find_raw_table_again : goal.returns-in_default-find_raw_table_again
+returns-in_default-find_raw_table_again c = record {
   exact = row_of-none c.args.served.now.desc c.args.feed c.args.number
       (fields_of c.args.fields.now) c.in-Some.name.now c.in-Some.ensures.value
-      (rw c.in_default-find_raw_table.is at c.find_raw_table.ensures.exact);
+      (rw c.in_default-find_raw_table_again.is at c.find_raw_table_again.ensures.exact);
 }
 
 pub table_cells-requires : goal.table_cells-requires
@@ -22,20 +22,20 @@ table_cells-requires c =
     (field_at-first (fields_of c.args.fields.now) c.in-Some.name.now c.in-Some.ensures.value) in
     record { named = omega arith }
 
-pub returns-in-Some-2 : goal.returns-in-Some-2
-returns-in-Some-2 c = record {
+pub returns-in-Ok : goal.returns-in-Ok
+returns-in-Ok c = record {
   exact = row_of-named c.args.served.now.desc c.args.feed c.args.number
-      (fields_of c.args.fields.now) c.in-Some.name.now c.in-Some-find_raw_table.table
-      c.table.result.now (Some c.in-Some-2.cells) c.in-Some.ensures.value
-      c.in-Some-find_raw_table.ensures.exact c.table.ensures.exact
-      (rw c.in-Some-2.is at c.in_ok-cells.ensures.exact);
+      (fields_of c.args.fields.now) c.in-Some.name.now c.in-Some-find_raw_table_again.table
+      c.table.result.now (Ok c.in-Ok.cells) c.in-Some.ensures.value
+      c.in-Some-find_raw_table_again.ensures.exact c.table.ensures.exact
+      (rw c.in-Ok.is at c.in_ok-cells.ensures.exact);
 }
 
-pub returns-in-None : goal.returns-in-None
-returns-in-None c = record {
+pub returns-in-Err : goal.returns-in-Err
+returns-in-Err c = record {
   exact = row_of-named c.args.served.now.desc c.args.feed c.args.number
-      (fields_of c.args.fields.now) c.in-Some.name.now c.in-Some-find_raw_table.table
-      c.table.result.now None c.in-Some.ensures.value
-      c.in-Some-find_raw_table.ensures.exact c.table.ensures.exact
-      (rw c.in-None.is at c.in_ok-cells.ensures.exact);
+      (fields_of c.args.fields.now) c.in-Some.name.now c.in-Some-find_raw_table_again.table
+      c.table.result.now (Err c.in-Err.cause) c.in-Some.ensures.value
+      c.in-Some-find_raw_table_again.ensures.exact c.table.ensures.exact
+      (rw c.in-Err.is at c.in_ok-cells.ensures.exact);
 }

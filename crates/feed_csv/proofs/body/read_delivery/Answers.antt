@@ -1,6 +1,6 @@
 use Rattle.std.proofs.Common.{◌∙◌, ℕ, Bor, List, Some, ap, sym, inr}
 use Rattle.csv.specs.Reading.{strip_bom}
-use Rattle.feed_csv.proofs.body.read_rows.Goals as goal
+use Rattle.feed_csv.proofs.body.read_delivery.Goals as goal
 
 pub read_records-requires : goal.read_records-requires
 read_records-requires c =
