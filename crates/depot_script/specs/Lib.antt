@@ -1,0 +1,6 @@
+pub mod Written
+pub mod CommandValues
+pub mod Faults
+pub mod Commands
+pub mod Values
+pub mod Texts
