@@ -1,16 +1,17 @@
 -- A reading that serves is accepted: `IsAccepted-reading`. Each line asks for what fits the
 -- description, so each step does, and so does the journal.
-use Rattle.std.proofs.Common.{◌≡◌, ℕ, zero, suc, ◌<◌, ◌^◌, List, [], ◌∷◌, length}
+use Rattle.std.proofs.Common.{◌≡◌, ℕ, zero, suc, ◌<◌, ◌≤◌, ◌^◌, List, [], ◌∷◌, length}
 use Rattle.std.proofs.Common.{Bool, true, false, refl, subst, inl, inr, arith}
-use Rattle.std.specs.Prelude.{Option, Some, None, Result, Ok, Err, All, ⊤, if◌then◌else◌, codes}
-use Rattle.std.specs.Prelude.{◌&&◌}
+use Rattle.std.specs.Prelude.{Option, Some, None, Result, Ok, Err, All, ⊤, if◌then◌else◌}
+use Rattle.std.specs.Prelude.{is_none, nat_lt, unwrap_or}
 use Rattle.std.specs.Str.{bytes_eq}
-use Rattle.std.proofs.lemmas.Bool.{cases_Bool, ltb-true}
+use Rattle.std.proofs.lemmas.Bool.{cases_Bool, ltb-false}
 use Rattle.std.proofs.lemmas.List.Elements.{All-cons, All-head, All-nil, All-tail}
 use Rattle.std.proofs.lemmas.List.Quantifiers.{position-Some}
-use Rattle.std.proofs.lemmas.Option.{cond_some, option_and_then_some}
+use Rattle.std.proofs.lemmas.Option.{option_and_then_some}
 use Rattle.depot_cell.specs.Numbers.{number_of}
-use Rattle.desc_lines.specs.Words.{begins_comment, is_empty, words}
+use Rattle.partition_map.specs.Time.{END}
+use Rattle.desc_lines.specs.Words.{begins_comment, words}
 use Rattle.desc_types.specs.declared.table.Feed.{Feed}
 use Rattle.desc_types.specs.declared.delivery.DRow.{DRow}
 use Rattle.table_desc.specs.declared.fault.BadLine.{BadLine}
@@ -25,181 +26,257 @@ use Rattle.view_meaning.specs.declared.journal.Entry.TheVariants as entry
 use Rattle.view_meaning.specs.declared.request.Item.{Item}
 use Rattle.view_meaning.specs.Journal.{FitsDelivery, FitsJournal, is_repeat}
 use Rattle.view_meaning.proofs.FitLemmas.{FitsJournal-drained, FitsJournal-push}
-use Rattle.feed_csv.specs.Bodies.{rows_of}
+use Rattle.query_pin.specs.declared.request.RequestFault.{RequestFault}
+use Rattle.query_pin.specs.Requests.{request_fault}
+use Rattle.feed_csv.specs.declared.fault.BadRecord.{BadRecord}
+use Rattle.feed_csv.specs.Bodies.{delivery_with, rows_of}
 use Rattle.feed_csv.proofs.RowLemmas.{rows_fit}
-use Rattle.depot_cli.specs.declared.script.order.Head.{Head}
-use Rattle.depot_cli.specs.declared.script.order.Order.{Order}
-use Rattle.depot_cli.specs.declared.script.order.Order.TheVariants as order
+use Rattle.depot_script.specs.declared.body.BodySize.{BodySize}
+use Rattle.depot_script.specs.declared.body.BodySize.TheVariants as body
+use Rattle.depot_script.specs.declared.fault.CommandFault.{CommandFault}
+use Rattle.depot_script.specs.declared.fault.CommandFault.TheVariants as fault
+use Rattle.depot_script.specs.CommandValues.{CommandOf}
+use Rattle.depot_script.specs.CommandValues as command
+use Rattle.depot_script.specs.Commands.{body_size, command_of_words, command_said, feed_said}
+use Rattle.depot_script.specs.Commands.{if_counted, line_command, number_said, unless_faulty}
+use Rattle.depot_script.specs.Faults.{command_tests, first_fault, has_bad_level, has_bad_number}
+use Rattle.depot_script.specs.Faults.{lacks_feed, lacks_table, number_to}
+use Rattle.depot_script.specs.Written.{WrittenCommandOf, command_of, is_command}
+use Rattle.depot_script.specs.Written as written
 use Rattle.depot_cli.specs.declared.script.work.Work.{Work}
 use Rattle.depot_cli.specs.declared.script.work.Work.TheVariants as work
-use Rattle.depot_cli.specs.Orders.{asked, deliver_order, head_of, item_read, number_below, order_of}
-use Rattle.depot_cli.specs.Orders.{order_of_words, query_order, sized}
+use Rattle.depot_cli.specs.declared.script.work.Refusal.TheVariants as refusal
+use Rattle.depot_cli.specs.Items.{asked, asking, is_end, is_later, loading, work_of}
 use Rattle.depot_cli.specs.Reading.{NextLine, NoLine, Unreadable, Line, NextBody, Unfinished, Body}
-use Rattle.depot_cli.specs.Reading.{OpeningEnd, Go, Broken, Serving, Session, Step, Ends}
+use Rattle.depot_cli.specs.Reading.{OpeningEnd, Go, Broken, Serving, Session, Step, Ends, Ended}
 use Rattle.depot_cli.specs.Reading.{Does, body_due, body_step, line_due, line_step}
-use Rattle.depot_cli.specs.Reading.{load_of, next_body, next_line, opening, order_step}
+use Rattle.depot_cli.specs.Reading.{next_body, next_line, opening, sized_step}
 use Rattle.depot_cli.specs.Reading.{script_at, session, session_at, session_from}
 use Rattle.depot_cli.specs.Reading.{step_of}
 use Rattle.depot_cli.specs.SerialJournal.{journal_after, serial}
 use Rattle.depot_cli.specs.Acceptance.{HasAcceptedReadings, IsAccepted}
 
--- the feed is one of the description, and the number one of a delivery
-record FitsHead (desc : DescOf) (head : Head) : Type 0 where
-  pub of_feed : head.feed < length desc.feeds
-  pub numbered : head.number < 2 ^ 32
+-- the numbers of a delivery: its feed is one of the description, and the others are in their ranges
+record FitsNumbers (desc : DescOf) (feed number closes : ℕ) : Type 0 where
+  pub of_feed : feed < length desc.feeds
+  pub numbered : number < 2 ^ 32
+  pub in_time : closes ≤ END
 
--- an order for a delivery fits, and so does each other one
-abbrev FitsOrder : DescOf → Order → Type 0
-FitsOrder desc (order.Body (Some head) size) = FitsHead desc head
-FitsOrder desc (order.Body None size) = ⊤
-FitsOrder desc order.Nothing = ⊤
-FitsOrder desc order.Drain = ⊤
-FitsOrder desc (order.Query item) = ⊤
-FitsOrder desc order.End = ⊤
-FitsOrder desc order.Refused = ⊤
-FitsOrder desc order.BigBody = ⊤
+-- a command for a delivery fits if its numbers do, and so does each other one
+abbrev FitsCommand : DescOf → CommandOf → Type 0
+FitsCommand desc command.Nothing = ⊤
+FitsCommand desc (command.Deliver feed number closes size) = FitsNumbers desc feed number closes
+FitsCommand desc command.Drain = ⊤
+FitsCommand desc (command.Query items) = ⊤
+FitsCommand desc (command.Marks items) = ⊤
+FitsCommand desc (command.Aside feed) = ⊤
+FitsCommand desc command.Reclaim = ⊤
+FitsCommand desc command.End = ⊤
+
+-- what was read of a line fits if its command does
+abbrev FitsLine : DescOf → Result CommandOf CommandFault → Type 0
+FitsLine desc (Ok read) = FitsCommand desc read
+FitsLine desc (Err cause) = ⊤
 
 -- a delivery that is to be loaded fits, and so does each other item
 abbrev FitsWork : DescOf → Work → Type 0
 FitsWork desc work.Nothing = ⊤
-FitsWork desc work.Refused = ⊤
+FitsWork desc (work.Refused cause) = ⊤
 FitsWork desc (work.Load delivery) = FitsDelivery desc delivery
 FitsWork desc work.Drain = ⊤
-FitsWork desc (work.Query item) = ⊤
+FitsWork desc (work.Query items) = ⊤
 
 -- what a step does fits
 abbrev FitsStep : DescOf → Step → Type 0
 FitsStep desc (Ends end) = ⊤
 FitsStep desc (Does item due taken rest) = FitsWork desc item
 
--- a number that was read below a limit is below it
-number_below-lt : (limit number : ℕ) (word : List ℕ) → number_below limit word ≡ Some number
-    → number < limit
-number_below-lt limit number word read =
+-- a number that is there is not over its limit
+within_limit : (over : Bool) (found number : ℕ)
+    → (if over then None else Some found) ≡ Some number → (over ≡ false) × (found ≡ number)
+within_limit true found number made = cc
+within_limit false found number made = (refl, cc)
+
+-- a number up to a limit is no more than it
+number_to-le : (limit number : ℕ) (word : List ℕ) → number_to limit word ≡ Some number
+    → number ≤ limit
+number_to-le limit number word read =
     option_and_then_some _ (number_of word) number read (λ found there made.
-    let parts = cond_some _ _ _ made in
-    subst (λ (number : ℕ). number < limit) parts.1 (ltb-true found limit parts.0))
+    let parts = within_limit (nat_lt limit found) found number made in
+    subst (λ (number : ℕ). number ≤ limit) parts.1 (ltb-false limit found parts.0))
 
--- a delivery's words that were read fit
-FitsHead-head_of : (desc : DescOf) (feed number closes : List ℕ) (head : Head)
-    → head_of desc feed number closes ≡ Some head → FitsHead desc head
-FitsHead-head_of desc feed number closes head read =
-    option_and_then_some _ (find_feed desc feed) head read (λ its_feed there made.
-    option_and_then_some _ (number_below (2 ^ 32) number) head made (λ its_number below made.
-    option_and_then_some _ (number_below 1 closes) head made (λ zero_closes last made.
-    let is_head : record { feed = its_feed; number = its_number } ≡ head = cc in
-    subst (FitsHead desc) is_head (record {
-      of_feed = (position-Some (λ (feed_ : Feed). bytes_eq feed_.name feed) desc.feeds its_feed
-          (record { name = []; header = false }) there).0;
-      numbered = number_below-lt (2 ^ 32) its_number number below;
-    }))))
+-- so is the number that a word says
+number_said-le : (limit : ℕ) (word : List ℕ) → number_said limit word ≤ limit
+number_said-le limit word = by_number (number_to limit word) refl
+  where
+    by_number : (number : Option ℕ) → number_to limit word ≡ number → unwrap_or number 0 ≤ limit
+    by_number None read = omega arith
+    by_number (Some number) read = number_to-le limit number word read
 
--- of two orders that fit the one that a test takes fits
-FitsOrder-if : (desc : DescOf) (test : Bool) (first second : Order)
-    → FitsOrder desc first → FitsOrder desc second
-    → FitsOrder desc (if test then first else second)
-FitsOrder-if desc true first second fits others = fits
-FitsOrder-if desc false first second fits others = others
+-- a feed that is not lacking is one of the description
+feed_said-lt : (desc : DescOf) (feed : List ℕ) → is_none (find_feed desc feed) ≡ false
+    → feed_said desc feed < length desc.feeds
+feed_said-lt desc feed there = by_place (find_feed desc feed) refl there
+  where
+    by_place : (place : Option ℕ) → find_feed desc feed ≡ place → is_none place ≡ false
+        → unwrap_or place 0 < length desc.feeds
+    by_place None found there = cc
+    by_place (Some place) found there =
+        (position-Some (λ (its_feed : Feed). bytes_eq its_feed.name feed) desc.feeds place
+        (record { name = []; header = false }) found).0
 
--- an order for a body fits if its delivery does
-FitsOrder-body : (desc : DescOf) (head : Option Head) (size : ℕ)
-    → ((its_head : Head) → head ≡ Some its_head → FitsHead desc its_head)
-    → FitsOrder desc (order.Body head size)
-FitsOrder-body desc None size fits = tt
-FitsOrder-body desc (Some head) size fits = fits head refl
+-- where no test holds, the third one does not
+first_fault-third : (first second third : Bool) (one two three : CommandFault)
+    (others : List (Bool × CommandFault))
+    → first_fault ((first, one) ∷ (second, two) ∷ (third, three) ∷ others) ≡ None
+    → third ≡ false
+first_fault-third true second third one two three others none = cc
+first_fault-third false true third one two three others none = cc
+first_fault-third false false true one two three others none = cc
+first_fault-third false false false one two three others none = refl
 
--- so does the order that a body's size gives
-FitsOrder-sized : (desc : DescOf) (head : Option Head) (size : Option ℕ)
-    → ((its_head : Head) → head ≡ Some its_head → FitsHead desc its_head)
-    → FitsOrder desc (sized head size)
-FitsOrder-sized desc head None fits = tt
-FitsOrder-sized desc head (Some size) fits =
-    FitsOrder-if desc _ order.BigBody (order.Body head size) tt (FitsOrder-body desc head size fits)
+-- the numbers of a delivery fit if its feed is there
+FitsNumbers-said : (desc : DescOf) (feed number closes : List ℕ)
+    → is_none (find_feed desc feed) ≡ false
+    → FitsNumbers desc (feed_said desc feed) (number_said 4294967295 number)
+    (number_said END closes)
+FitsNumbers-said desc feed number closes there = record {
+  of_feed = feed_said-lt desc feed there;
+  numbered = omega (arith, number_said-le 4294967295 number);
+  in_time = number_said-le END closes;
+}
 
--- the words after `deliver` ask for what fits
-FitsOrder-deliver : (desc : DescOf) (others : List (List ℕ))
-    → FitsOrder desc (deliver_order desc others)
-FitsOrder-deliver desc [] = tt
-FitsOrder-deliver desc (feed ∷ []) = tt
-FitsOrder-deliver desc (feed ∷ number ∷ []) = tt
-FitsOrder-deliver desc (feed ∷ number ∷ closes ∷ []) = tt
-FitsOrder-deliver desc (feed ∷ number ∷ closes ∷ size ∷ []) =
-    FitsOrder-sized desc (head_of desc feed number closes) (number_of size)
-    (λ head read. FitsHead-head_of desc feed number closes head read)
-FitsOrder-deliver desc (feed ∷ number ∷ closes ∷ size ∷ more ∷ others) = tt
+-- a command against which no test speaks fits
+FitsCommand-said : (desc : DescOf) (command : WrittenCommandOf)
+    → first_fault (command_tests desc command) ≡ None
+    → FitsCommand desc (command_said desc command)
+FitsCommand-said desc (written.Deliver feed number closes size) none =
+    let its_command = written.Deliver feed number closes size in
+    FitsNumbers-said desc feed number closes (first_fault-third (has_bad_level its_command)
+    (has_bad_number its_command) (lacks_feed desc its_command) fault.BadWord fault.BadNumber
+    fault.NoFeed ((lacks_table desc its_command, fault.NoTable) ∷ []) none)
+FitsCommand-said desc written.Drain none = tt
+FitsCommand-said desc (written.Query items) none = tt
+FitsCommand-said desc (written.Marks item) none = tt
+FitsCommand-said desc (written.Aside feed) none = tt
+FitsCommand-said desc written.Reclaim none = tt
+FitsCommand-said desc written.End none = tt
 
--- a query is no delivery
-FitsOrder-asked : (desc : DescOf) (item : Option Item) → FitsOrder desc (asked item)
-FitsOrder-asked desc None = tt
-FitsOrder-asked desc (Some item) = tt
+-- so does one that its tests let through
+FitsLine-unless_faulty : (desc : DescOf) (command : WrittenCommandOf) (cause : Option CommandFault)
+    → first_fault (command_tests desc command) ≡ cause
+    → FitsLine desc (unless_faulty desc command cause)
+FitsLine-unless_faulty desc command None none = FitsCommand-said desc command none
+FitsLine-unless_faulty desc command (Some cause) none = tt
 
--- the words after `query` ask for what fits
-FitsOrder-query : (desc : DescOf) (others : List (List ℕ))
-    → FitsOrder desc (query_order desc others)
-FitsOrder-query desc [] = tt
-FitsOrder-query desc (table ∷ []) = tt
-FitsOrder-query desc (table ∷ from ∷ []) = tt
-FitsOrder-query desc (table ∷ from ∷ to ∷ []) = FitsOrder-asked desc (item_read desc table from to)
-FitsOrder-query desc (table ∷ from ∷ to ∷ more ∷ others) = tt
+-- the command of words fits
+FitsLine-if_counted : (desc : DescOf) (command : Option WrittenCommandOf)
+    → FitsLine desc (if_counted desc command)
+FitsLine-if_counted desc None = tt
+FitsLine-if_counted desc (Some command) =
+    FitsLine-unless_faulty desc command (first_fault (command_tests desc command)) refl
 
--- the words of a line ask for what fits
-FitsOrder-words : (desc : DescOf) (line : List (List ℕ)) → FitsOrder desc (order_of_words desc line)
-FitsOrder-words desc [] = tt
-FitsOrder-words desc (first ∷ others) =
-    FitsOrder-if desc (begins_comment first) order.Nothing _ tt
-    (FitsOrder-if desc (bytes_eq first (codes "deliver")) (deliver_order desc others) _
-    (FitsOrder-deliver desc others)
-    (FitsOrder-if desc (bytes_eq first (codes "query")) (query_order desc others) _
-    (FitsOrder-query desc others)
-    (FitsOrder-if desc (bytes_eq first (codes "drain") && is_empty others) order.Drain _ tt
-    (FitsOrder-if desc (bytes_eq first (codes "end") && is_empty others) order.End order.Refused tt
-    tt))))
+-- of two lines that fit the one that a test takes fits
+FitsLine-if : (desc : DescOf) (test : Bool) (first second : Result CommandOf CommandFault)
+    → FitsLine desc first → FitsLine desc second
+    → FitsLine desc (if test then first else second)
+FitsLine-if desc true first second fits others = fits
+FitsLine-if desc false first second fits others = others
+
+-- what was read of a line's words fits
+FitsLine-words : (desc : DescOf) (line : List (List ℕ)) → FitsLine desc (command_of_words desc line)
+FitsLine-words desc [] = tt
+FitsLine-words desc (first ∷ others) =
+    FitsLine-if desc (begins_comment first) (Ok command.Nothing) _ tt
+    (FitsLine-if desc (is_command first) (if_counted desc (command_of first others))
+    (Err fault.BadWord) (FitsLine-if_counted desc (command_of first others)) tt)
 
 -- a delivery whose rows were read fits
-FitsWork-load_of : (desc : DescOf) (head : Head) (body : List ℕ) (rows : Option (List DRow))
-    → FitsHead desc head → rows_of desc head.feed body ≡ rows → FitsWork desc (load_of head rows)
-FitsWork-load_of desc head body None fits read = tt
-FitsWork-load_of desc head body (Some rows) fits read =
-    let are_rows = rows_fit desc head.feed body rows read in
+FitsWork-loading : (desc : DescOf) (feed number closes : ℕ) (body_ : List ℕ)
+    (read : Result (List DRow) BadRecord)
+    → IsAcceptedDesc desc → FitsNumbers desc feed number closes → rows_of desc feed body_ ≡ read
+    → FitsWork desc (loading (delivery_with feed number closes read))
+FitsWork-loading desc feed number closes body_ (Ok rows) accepted fits read =
+    let are_rows = rows_fit desc feed body_ rows accepted read in
     record {
       of_feed = fits.of_feed;
       numbered = fits.numbered;
-      in_time = omega arith;
+      in_time = fits.in_time;
       rows = are_rows.fit;
       from_one = are_rows.from_one;
       rising = are_rows.rising;
     }
+FitsWork-loading desc feed number closes body_ (Err bad) accepted fits read = tt
+
+-- a query is no delivery
+FitsWork-asking : (desc : DescOf) (items : List Item) (cause : Option RequestFault)
+    → FitsWork desc (asking items cause)
+FitsWork-asking desc items None = tt
+FitsWork-asking desc items (Some cause) = tt
+
+-- what a command that fits asks for fits
+FitsWork-asked : (desc : DescOf) (its_command : CommandOf) (body_ : List ℕ)
+    → IsAcceptedDesc desc → FitsCommand desc its_command
+    → FitsWork desc (asked desc its_command body_)
+FitsWork-asked desc command.Nothing body_ accepted fits = tt
+FitsWork-asked desc (command.Deliver feed number closes size) body_ accepted fits =
+    FitsWork-loading desc feed number closes body_ (rows_of desc feed body_) accepted fits refl
+FitsWork-asked desc command.Drain body_ accepted fits = tt
+FitsWork-asked desc (command.Query items) body_ accepted fits =
+    FitsWork-asking desc items (request_fault desc items)
+FitsWork-asked desc (command.Marks items) body_ accepted fits = tt
+FitsWork-asked desc (command.Aside feed) body_ accepted fits = tt
+FitsWork-asked desc command.Reclaim body_ accepted fits = tt
+FitsWork-asked desc command.End body_ accepted fits = tt
+
+-- so does what a line asks for
+FitsWork-work_of : (desc : DescOf) (read : Result CommandOf CommandFault) (body_ : List ℕ)
+    → IsAcceptedDesc desc → FitsLine desc read → FitsWork desc (work_of desc read body_)
+FitsWork-work_of desc (Err cause) body_ accepted fits = tt
+FitsWork-work_of desc (Ok its_command) body_ accepted fits = by_test (is_later its_command)
+  where
+    by_test : (later : Bool) → FitsWork desc
+        (if later then work.Refused refusal.Later else asked desc its_command body_)
+    by_test true = tt
+    by_test false = FitsWork-asked desc its_command body_ accepted fits
+
+-- what is done at a line without a body fits
+FitsStep-bare : (desc : DescOf) (ends : Bool) (item : Work) (due taken : ℕ) (rest : List ℕ)
+    → FitsWork desc item
+    → FitsStep desc (if ends then Ends (Ended rest) else Does item due taken rest)
+FitsStep-bare desc true item due taken rest fits = tt
+FitsStep-bare desc false item due taken rest fits = fits
 
 -- what is done at a body fits
-FitsStep-body_step : (desc : DescOf) (base due taken size : ℕ) (head : Option Head)
-    (next : NextBody) → FitsOrder desc (order.Body head size)
-    → FitsStep desc (body_step desc base due taken head size next)
-FitsStep-body_step desc base due taken size head (Unfinished cause rest) fits = tt
-FitsStep-body_step desc base due taken size None (Body body rest) fits = tt
-FitsStep-body_step desc base due taken size (Some head) (Body body rest) fits =
-    FitsWork-load_of desc head body (rows_of desc head.feed body) fits refl
+FitsStep-body_step : (desc : DescOf) (base due taken size : ℕ)
+    (read : Result CommandOf CommandFault) (next : NextBody)
+    → IsAcceptedDesc desc → FitsLine desc read
+    → FitsStep desc (body_step desc base due taken read size next)
+FitsStep-body_step desc base due taken size read (Unfinished cause rest) accepted fits = tt
+FitsStep-body_step desc base due taken size read (Body body_ rest) accepted fits =
+    FitsWork-work_of desc read body_ accepted fits
 
--- what is done for an order that fits does
-FitsStep-order_step : (desc : DescOf) (base due taken : ℕ) (order_ : Order) (rest : List ℕ)
-    → FitsOrder desc order_ → FitsStep desc (order_step desc base due taken order_ rest)
-FitsStep-order_step desc base due taken order.Nothing rest fits = tt
-FitsStep-order_step desc base due taken (order.Query item) rest fits = tt
-FitsStep-order_step desc base due taken order.Drain rest fits = tt
-FitsStep-order_step desc base due taken order.End rest fits = tt
-FitsStep-order_step desc base due taken order.Refused rest fits = tt
-FitsStep-order_step desc base due taken (order.Body head size) rest fits =
-    FitsStep-body_step desc base (body_due due size rest) taken size head
-    (next_body taken size rest) fits
-FitsStep-order_step desc base due taken order.BigBody rest fits = tt
+-- what is done at a line that was read does
+FitsStep-sized_step : (desc : DescOf) (base due taken : ℕ) (read : Result CommandOf CommandFault)
+    (size : BodySize) (rest : List ℕ)
+    → IsAcceptedDesc desc → FitsLine desc read
+    → FitsStep desc (sized_step desc base due taken read size rest)
+FitsStep-sized_step desc base due taken read body.NoBody rest accepted fits =
+    FitsStep-bare desc (is_end read) (work_of desc read []) due taken rest
+    (FitsWork-work_of desc read [] accepted fits)
+FitsStep-sized_step desc base due taken read (body.Body size) rest accepted fits =
+    FitsStep-body_step desc base (body_due due size rest) taken size read
+    (next_body taken size rest) accepted fits
+FitsStep-sized_step desc base due taken read body.TooBig rest accepted fits = tt
 
 -- what is done at a line fits
 FitsStep-line_step : (desc : DescOf) (base taken : ℕ) (bytes : List ℕ) (next : NextLine)
-    → FitsStep desc (line_step desc base taken bytes next)
-FitsStep-line_step desc base taken bytes NoLine = tt
-FitsStep-line_step desc base taken bytes (Unreadable cause rest) = tt
-FitsStep-line_step desc base taken bytes (Line line rest) =
-    FitsStep-order_step desc base (line_due bytes) _ (order_of desc line) rest
-    (FitsOrder-words desc (words line))
+    → IsAcceptedDesc desc → FitsStep desc (line_step desc base taken bytes next)
+FitsStep-line_step desc base taken bytes NoLine accepted = tt
+FitsStep-line_step desc base taken bytes (Unreadable cause rest) accepted = tt
+FitsStep-line_step desc base taken bytes (Line line rest) accepted =
+    FitsStep-sized_step desc base (line_due bytes) _ (line_command desc line) (body_size line) rest
+    accepted (FitsLine-words desc (words line))
 
 -- so do the items that begin with a step, if the others fit
 FitsWork-session_at : (desc : DescOf) (more : ℕ → List ℕ → Session) (step : Step)
@@ -211,26 +288,26 @@ FitsWork-session_at desc more (Does item due taken rest) later fits =
 
 -- all items of a session fit
 FitsWork-session_from : (desc : DescOf) (base turns taken : ℕ) (bytes : List ℕ)
-    → All (FitsWork desc) (session_from desc base turns taken bytes).items
-FitsWork-session_from desc base zero taken bytes = All-nil (FitsWork desc)
-FitsWork-session_from desc base (suc turns) taken bytes =
+    → IsAcceptedDesc desc → All (FitsWork desc) (session_from desc base turns taken bytes).items
+FitsWork-session_from desc base zero taken bytes accepted = All-nil (FitsWork desc)
+FitsWork-session_from desc base (suc turns) taken bytes accepted =
     FitsWork-session_at desc (session_from desc base turns) (step_of desc base taken bytes)
-    (FitsWork-session_from desc base turns)
-    (FitsStep-line_step desc base taken bytes (next_line taken bytes))
+    (λ taken rest. FitsWork-session_from desc base turns taken rest accepted)
+    (FitsStep-line_step desc base taken bytes (next_line taken bytes) accepted)
 
 -- an item that fits leaves a journal that fits
 FitsJournal-journal_after : (desc : DescOf) (journal : List Entry) (item : Work)
     → FitsJournal desc journal → FitsWork desc item
     → FitsJournal desc (journal_after desc journal item)
 FitsJournal-journal_after desc journal work.Nothing fits also = fits
-FitsJournal-journal_after desc journal work.Refused fits also = fits
+FitsJournal-journal_after desc journal (work.Refused cause) fits also = fits
 FitsJournal-journal_after desc journal (work.Load delivery) fits also =
     elim (cases_Bool (is_repeat journal delivery)) [
       | inl repeat ↦ rw repeat fits
       | inr new ↦ rw new (FitsJournal-push desc journal (entry.Load delivery) fits also)
     ]
 FitsJournal-journal_after desc journal work.Drain fits also = FitsJournal-drained desc journal fits
-FitsJournal-journal_after desc journal (work.Query item) fits also = fits
+FitsJournal-journal_after desc journal (work.Query items) fits also = fits
 
 -- so do all items
 FitsJournal-serial : (desc : DescOf) (journal : List Entry) (items : List Work)
@@ -249,7 +326,7 @@ IsAccepted-session desc taken rest accepted = record {
   accepted = accepted;
   served = accepted-served desc accepted;
   fits = FitsJournal-serial desc [] _ (All-nil _)
-      (FitsWork-session_from desc taken (suc (length rest)) 0 rest);
+      (FitsWork-session_from desc taken (suc (length rest)) 0 rest accepted);
 }
 
 -- of two scripts that are one the same is accepted

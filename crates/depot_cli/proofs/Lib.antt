@@ -1,6 +1,5 @@
 pub mod AcceptedLemmas
 pub mod CompleteLemmas
-pub mod FlexibleRows
 pub mod DueLemmas
 pub mod EndLemmas
 pub mod KnownLemmas

@@ -2,21 +2,23 @@
 use Rattle.std.proofs.Common.{◌≡◌, ℕ, suc, zero, ◌+◌, ◌-◌, ◌<◌, ◌≤◌, List, [], ◌∷◌, length, Bool}
 use Rattle.std.proofs.Common.{true, false, refl, sym, ap, ◌∙◌, arith, nat_lt, nat_le, if◌then◌else◌}
 use Rattle.std.proofs.Common.{length-drop, min, subst}
-use Rattle.std.specs.Prelude.{IfSome, Option, Some, None, Ok, drop, take}
+use Rattle.std.specs.Prelude.{IfSome, Option, Some, None, Result, Ok, drop, take}
 use Rattle.std.specs.Io.BufRead.{first_line}
 use Rattle.std.proofs.lemmas.Bool.{ltb-false}
 use Rattle.depot_io.specs.Lines.{LIMIT, Takes, line_take, span}
 use Rattle.depot_cli.specs.declared.run.status.InputEnd.TheVariants as why
 use Rattle.desc_lines.specs.Words.{is_empty}
 use Rattle.desc_types.specs.Descriptions.{DescOf}
-use Rattle.depot_cli.specs.declared.script.order.Head.{Head}
-use Rattle.depot_cli.specs.declared.script.order.Order.{Order}
-use Rattle.depot_cli.specs.declared.script.order.Order.TheVariants as order
+use Rattle.depot_script.specs.declared.body.BodySize.{BodySize}
+use Rattle.depot_script.specs.declared.body.BodySize.TheVariants as body
+use Rattle.depot_script.specs.declared.fault.CommandFault.{CommandFault}
+use Rattle.depot_script.specs.CommandValues.{CommandOf}
+use Rattle.depot_script.specs.Commands.{body_size, line_command}
 use Rattle.depot_cli.specs.declared.script.work.Work.{Work}
-use Rattle.depot_cli.specs.Orders.{order_of}
+use Rattle.depot_cli.specs.Items.{is_end, work_of}
 use Rattle.depot_cli.specs.Reading.{NextLine, NoLine, Unreadable, Line, next_line, NextBody}
-use Rattle.depot_cli.specs.Reading.{Unfinished, Body, next_body, Does, body_due, body_step}
-use Rattle.depot_cli.specs.Reading.{line_due, order_step, line_step, step_of}
+use Rattle.depot_cli.specs.Reading.{Unfinished, Body, next_body, Ends, Ended, Does}
+use Rattle.depot_cli.specs.Reading.{body_due, body_step, line_due, line_step, sized_step, step_of}
 use Rattle.depot_cli.specs.ScriptCalls.{IsBodyUndone, IsLeftOf, IsNextLine}
 use Rattle.depot_cli.proofs.KnownLemmas.{IfSome-known}
 
@@ -90,50 +92,46 @@ Does-same work its_work due its_due taken its_taken rest its_rest same =
     (ap length is_rest, cc)
 
 -- what is done at a body leaves what stands after it
-body_step-left : (desc : DescOf) (base due taken size : ℕ) (head : Option Head)
+body_step-left : (desc : DescOf) (base due taken size : ℕ) (command : Result CommandOf CommandFault)
     (bytes rest : List ℕ) (next : NextBody) (work : Work) (its_due taken_now : ℕ)
     → next_body taken size bytes ≡ next
-    → body_step desc base due taken head size next ≡ Does work its_due taken_now rest
+    → body_step desc base due taken command size next ≡ Does work its_due taken_now rest
     → (length rest ≡ length bytes - size) × (its_due ≡ due)
-body_step-left desc base due taken size head bytes rest (Unfinished cause left) work its_due
-    taken_now
-    is_next does = cc
-body_step-left desc base due taken size head bytes rest (Body body behind) work its_due taken_now
+body_step-left desc base due taken size command bytes rest (Unfinished cause left) work its_due
+    taken_now is_next does = cc
+body_step-left desc base due taken size command bytes rest (Body body behind) work its_due taken_now
     is_next does =
     let same = Does-same _ work due its_due _ taken_now behind rest does in
     (same.0 ∙ next_body-left taken size bytes body behind is_next, same.1)
 
--- what is done at a line alone leaves what stands after it
-Does-leaves : (asked work : Work) (due its_due taken taken_now : ℕ) (bytes rest : List ℕ)
+-- what is done at a line without a body leaves what stands after it
+bare_step-leaves : (ends : Bool) (its_work work : Work) (due its_due taken taken_now : ℕ)
+    (bytes rest : List ℕ)
     → length bytes ≤ due
-    → Does asked due taken bytes ≡ Does work its_due taken_now rest
+    → (if ends then Ends (Ended bytes) else Does its_work due taken bytes)
+    ≡ Does work its_due taken_now rest
     → StepLeaves (length bytes + 1) due its_due rest
-Does-leaves asked work due its_due taken taken_now bytes rest within does =
-    let same = Does-same asked work due its_due taken taken_now bytes rest does in
+bare_step-leaves true its_work work due its_due taken taken_now bytes rest within does = cc
+bare_step-leaves false its_work work due its_due taken taken_now bytes rest within does =
+    let same = Does-same its_work work due its_due taken taken_now bytes rest does in
     record {
       fewer = omega arith;
       behind = omega arith;
       within = omega arith;
     }
 
--- what is done for an order leaves no more than stood after its line, and is due no later
-order_step-leaves : (desc : DescOf) (base due taken : ℕ) (asked : Order) (bytes rest : List ℕ)
-    (work : Work) (its_due taken_now : ℕ)
+-- what is done at a line of a known size leaves no more than stood after it, and is due no later
+sized_step-leaves : (desc : DescOf) (base due taken : ℕ) (command : Result CommandOf CommandFault)
+    (size : BodySize) (bytes rest : List ℕ) (work : Work) (its_due taken_now : ℕ)
     → length bytes ≤ due
-    → order_step desc base due taken asked bytes ≡ Does work its_due taken_now rest
+    → sized_step desc base due taken command size bytes ≡ Does work its_due taken_now rest
     → StepLeaves (length bytes + 1) due its_due rest
-order_step-leaves desc base due taken order.Nothing bytes rest work its_due taken_now within does =
-    Does-leaves _ work due its_due taken taken_now bytes rest within does
-order_step-leaves desc base due taken (order.Query item) bytes rest work its_due taken_now within
-    does = Does-leaves _ work due its_due taken taken_now bytes rest within does
-order_step-leaves desc base due taken order.Drain bytes rest work its_due taken_now within does =
-    Does-leaves _ work due its_due taken taken_now bytes rest within does
-order_step-leaves desc base due taken order.End bytes rest work its_due taken_now within does = cc
-order_step-leaves desc base due taken order.Refused bytes rest work its_due taken_now within does =
-    Does-leaves _ work due its_due taken taken_now bytes rest within does
-order_step-leaves desc base due taken (order.Body head size) bytes rest work its_due taken_now
+sized_step-leaves desc base due taken command body.NoBody bytes rest work its_due taken_now within
+    does = bare_step-leaves (is_end command) (work_of desc command []) work due its_due taken
+    taken_now bytes rest within does
+sized_step-leaves desc base due taken command (body.Body size) bytes rest work its_due taken_now
     within does =
-    let left = body_step-left desc base (body_due due size bytes) taken size head bytes rest
+    let left = body_step-left desc base (body_due due size bytes) taken size command bytes rest
     (next_body taken size bytes) work its_due taken_now refl does in
     let dues = body_due-within due size bytes within in
     record {
@@ -141,8 +139,8 @@ order_step-leaves desc base due taken (order.Body head size) bytes rest work its
       behind = omega arith;
       within = omega arith;
     }
-order_step-leaves desc base due taken order.BigBody bytes rest work its_due taken_now within does =
-    cc
+sized_step-leaves desc base due taken command body.TooBig bytes rest work its_due taken_now within
+    does = cc
 
 -- what is done at a line leaves less than there was, and is due no later than the line
 line_step-leaves : (desc : DescOf) (base taken : ℕ) (bytes rest : List ℕ) (next : NextLine)
@@ -155,8 +153,8 @@ line_step-leaves desc base taken bytes rest (Unreadable cause left) work due tak
     does = cc
 line_step-leaves desc base taken bytes rest (Line line behind) work due taken_now is_next does =
     let shorter = next_line-shorter taken bytes line behind is_next in
-    let leaves = order_step-leaves desc base (line_due bytes) (taken + line_take bytes)
-    (order_of desc line) behind rest work due taken_now shorter.1 does in
+    let leaves = sized_step-leaves desc base (line_due bytes) (taken + line_take bytes)
+    (line_command desc line) (body_size line) behind rest work due taken_now shorter.1 does in
     record {
       fewer = omega (arith, leaves.fewer);
       behind = leaves.behind;

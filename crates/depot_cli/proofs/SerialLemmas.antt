@@ -17,7 +17,7 @@ use Rattle.depot_cli.specs.SerialJournal.{journal_after, serial}
 IsLegal-journal_after : (desc : DescOf) (journal : List Entry) (item : Work)
     → HasEarlierSources desc → IsLegal desc journal → IsLegal desc (journal_after desc journal item)
 IsLegal-journal_after desc journal work.Nothing earlier legal = legal
-IsLegal-journal_after desc journal work.Refused earlier legal = legal
+IsLegal-journal_after desc journal (work.Refused refusal) earlier legal = legal
 IsLegal-journal_after desc journal (work.Load delivery) earlier legal =
     elim (cases_Bool (is_repeat journal delivery)) [
       | inl repeat ↦ rw repeat legal
@@ -25,7 +25,7 @@ IsLegal-journal_after desc journal (work.Load delivery) earlier legal =
     ]
 IsLegal-journal_after desc journal work.Drain earlier legal =
     IsLegal-drained desc journal earlier legal
-IsLegal-journal_after desc journal (work.Query item) earlier legal = legal
+IsLegal-journal_after desc journal (work.Query items) earlier legal = legal
 
 -- so do all items
 pub IsLegal-serial : (desc : DescOf) (journal : List Entry) (items : List Work)

@@ -1,21 +1,24 @@
 -- What the answer at a line or at a body says of the step that it belongs to.
-use Rattle.std.proofs.Common.{◌≡◌, ℕ, suc, zero, ◌+◌, ◌-◌, ◌≤◌, List, length, Bool, true, refl, sym}
+use Rattle.std.proofs.Common.{◌≡◌, ℕ, suc, zero, ◌+◌, ◌-◌, ◌≤◌, List, length, Bool, true}
+use Rattle.std.proofs.Common.{refl, sym}
 use Rattle.std.proofs.Common.{ap, ◌∙◌, arith, subst}
 use Rattle.std.specs.Prelude.{IfSome, Option, Some, None, Result, Ok, Err}
 use Rattle.std.proofs.lemmas.Option.{IfSome_then}
 use Rattle.depot_io.specs.Lines.{line_take}
 use Rattle.desc_types.specs.Descriptions.{DescOf}
-use Rattle.depot_cli.specs.declared.script.order.Head.{Head}
-use Rattle.depot_cli.specs.declared.script.order.Order.{Order}
-use Rattle.depot_cli.specs.declared.script.order.Order.TheVariants as order
+use Rattle.depot_script.specs.declared.body.BodySize.{BodySize}
+use Rattle.depot_script.specs.declared.body.BodySize.TheVariants as body
+use Rattle.depot_script.specs.declared.fault.CommandFault.{CommandFault}
+use Rattle.depot_script.specs.CommandValues.{CommandOf}
+use Rattle.depot_script.specs.Commands.{body_size, line_command}
 use Rattle.depot_cli.specs.declared.script.ScriptFault.{ScriptFault}
 use Rattle.depot_cli.specs.declared.script.ScriptFault.TheVariants.{Input, ReadFault, Memory}
+use Rattle.depot_cli.specs.declared.run.status.InputEnd.TheVariants as why
 use Rattle.depot_cli.specs.declared.script.work.Work.{Work}
-use Rattle.depot_cli.specs.Orders.{order_of}
 use Rattle.depot_cli.specs.Reading.{NextLine, Line, next_line, NextBody, Unfinished, Body}
-use Rattle.depot_cli.specs.Reading.{next_body, Step, Ends, Does, Stopped, body_due, body_work}
-use Rattle.depot_cli.specs.Reading.{body_step, line_due, line_step, order_step, step_of}
-use Rattle.depot_cli.specs.ScriptCalls.{IsBodyUndone, IsDone, IsLeftOf, IsNextBody, IsNextLine}
+use Rattle.depot_cli.specs.Reading.{next_body, Step, Ends, Does, Stopped, body_due}
+use Rattle.depot_cli.specs.Reading.{body_step, line_due, line_step, sized_step, step_of}
+use Rattle.depot_cli.specs.ScriptCalls.{IsBodyUndone, IsLeftOf, IsNextBody, IsNextLine}
 use Rattle.depot_cli.specs.ScriptCalls.{IsStep, IsUndone}
 use Rattle.depot_cli.proofs.KnownLemmas.{IfSome-known}
 use Rattle.depot_cli.proofs.LineLemmas.{IsLeftOf-le, known_line, step_of-leaves}
@@ -63,19 +66,29 @@ IsStep-line_fault desc base taken taken_now line left left_now fault answer =
     IfSome_then left answer (λ bytes answer.
     IsStep-at_line desc base taken taken_now bytes line left_now fault answer)
 
+-- what was read of a line: what it asks for, and how long the body after it is
+pub record IsRead (desc : DescOf) (line : List ℕ) (command : Result CommandOf CommandFault)
+    (size : BodySize) : Type 0 where
+  pub is_command : line_command desc line ≡ command
+  pub is_size : body_size line ≡ size
+
 -- the step at a line that is there
 step_of-line : (desc : DescOf) (base taken taken_after : ℕ) (bytes line rest : List ℕ)
-    (asked : Order)
+    (command : Result CommandOf CommandFault) (size : BodySize)
     → next_line taken bytes ≡ Line line rest
     → taken_after ≡ taken + line_take bytes
-    → order_of desc line ≡ asked
+    → IsRead desc line command size
     → step_of desc base taken bytes
-    ≡ order_step desc base (line_due bytes) taken_after asked rest
-step_of-line desc base taken taken_after bytes line rest asked there count is_order =
+    ≡ sized_step desc base (line_due bytes) taken_after command size rest
+step_of-line desc base taken taken_after bytes line rest command size there count read =
+    let due = line_due bytes in
     ap (λ (next : NextLine). line_step desc base taken bytes next) there
-    ∙ ap (λ (asked : Order).
-    order_step desc base (line_due bytes) (taken + line_take bytes) asked rest) is_order
-    ∙ ap (λ (taken : ℕ). order_step desc base (line_due bytes) taken asked rest) (sym count)
+    ∙ ap (λ (command : Result CommandOf CommandFault).
+    sized_step desc base due (taken + line_take bytes) command (body_size line) rest)
+    read.is_command
+    ∙ ap (λ (size : BodySize).
+    sized_step desc base due (taken + line_take bytes) command size rest) read.is_size
+    ∙ ap (λ (taken : ℕ). sized_step desc base due taken command size rest) (sym count)
 
 -- where the last byte of a body is left, so much is left as is due of it
 IsLeftOf-body : (due size : ℕ) (bytes : List ℕ) (left : Option (List ℕ))
@@ -85,115 +98,79 @@ IsLeftOf-body due (suc size) bytes left undone =
     IsLeftOf-le left (length bytes - (suc size - 1)) (length bytes - size) (omega arith) undone.1
 
 -- what stands at a body is not done where so much is left as is due of it
-body_step-undone : (desc : DescOf) (base due taken size : ℕ) (head : Option Head)
+body_step-undone : (desc : DescOf) (base due taken size : ℕ) (command : Result CommandOf CommandFault)
     (next : NextBody) (left : Option (List ℕ))
-    → IsLeftOf left due → IsUndone (body_step desc base due taken head size next) left
-body_step-undone desc base due taken size head (Unfinished cause rest) left is_left = tt
-body_step-undone desc base due taken size head (Body body rest) left is_left = is_left
+    → IsLeftOf left due → IsUndone (body_step desc base due taken command size next) left
+body_step-undone desc base due taken size command (Unfinished cause rest) left is_left = tt
+body_step-undone desc base due taken size command (Body body rest) left is_left = is_left
 
 -- a fault at a body is one at the step that stands there
-IsStep-at_body : (desc : DescOf) (base due taken taken_now size : ℕ) (head : Option Head)
-    (bytes body : List ℕ) (left : Option (List ℕ)) (fault : ScriptFault)
-    → IsNextBody (next_body taken size bytes) size (base + taken) bytes body left (Err fault)
-    → IsStep (order_step desc base due taken (order.Body head size) bytes) taken_now left
+IsStep-at_body : (desc : DescOf) (base due taken taken_now size : ℕ)
+    (command : Result CommandOf CommandFault) (bytes body_ : List ℕ) (left : Option (List ℕ))
+    (fault : ScriptFault)
+    → IsNextBody (next_body taken size bytes) size (base + taken) bytes body_ left (Err fault)
+    → IsStep (sized_step desc base due taken command (body.Body size) bytes) taken_now left
     (Err fault)
-IsStep-at_body desc base due taken taken_now size head bytes body left (Input why place) answer = (
-  answer.0,
-  ap (λ (next : NextBody).
-      body_step desc base (body_due due size bytes) taken head size next) answer.1
-      ∙ ap (λ (place : ℕ). Ends (Stopped why place answer.0)) (sym answer.3),
-  answer.2,
-)
-IsStep-at_body desc base due taken taken_now size head bytes body left ReadFault answer =
-    body_step-undone desc base (body_due due size bytes) taken size head
+IsStep-at_body desc base due taken taken_now size command bytes body_ left (Input why place)
+    answer = (
+      answer.0,
+      ap (λ (next : NextBody).
+          body_step desc base (body_due due size bytes) taken command size next) answer.1
+          ∙ ap (λ (place : ℕ). Ends (Stopped why place answer.0)) (sym answer.3),
+      answer.2,
+    )
+IsStep-at_body desc base due taken taken_now size command bytes body_ left ReadFault answer =
+    body_step-undone desc base (body_due due size bytes) taken size command
     (next_body taken size bytes) left (IsLeftOf-body due size bytes left answer)
-IsStep-at_body desc base due taken taken_now size head bytes body left Memory answer = tt
+IsStep-at_body desc base due taken taken_now size command bytes body_ left Memory answer = tt
 
--- what is done at a body that was read
-IsDone-at_body : (desc : DescOf) (base due taken taken_now size place : ℕ) (head : Option Head)
-    (bytes body : List ℕ) (left : Option (List ℕ)) (read : Unit {0}) (work : Work)
-    → IsNextBody (next_body taken size bytes) size place bytes body left (Ok read)
-    → taken_now ≡ taken + size
-    → work ≡ body_work desc head body
-    → IsDone (order_step desc base due taken (order.Body head size) bytes) taken_now left work
-IsDone-at_body desc base due taken taken_now size place head bytes body left read work answer count
-    is_work = record {
-      due = body_due due size bytes;
-      rest = answer.0;
-      does = ap (λ (next : NextBody).
-          body_step desc base (body_due due size bytes) taken head size next) answer.1
-          ∙ ap (λ (work : Work). Does work (body_due due size bytes) (taken + size) answer.0)
-          (sym is_work)
-          ∙ ap (λ (taken : ℕ). Does work (body_due due size bytes) taken answer.0) (sym count);
-      is_left = answer.2;
-    }
-
--- what the answer at an order says of the step at its line
-IsStep-after : (desc : DescOf) (base taken taken_after taken_now place : ℕ) (asked : Order)
+-- what the answer after a line says of the step at the line
+pub IsStep-after : (desc : DescOf) (base taken taken_after taken_now place : ℕ)
+    (command : Result CommandOf CommandFault) (size : BodySize)
     (line : List ℕ) (there : Bool) (left behind left_now : Option (List ℕ))
     (result : Result (Option Work) ScriptFault)
     → there ≡ true
-    → order_of desc line ≡ asked
+    → IsRead desc line command size
     → IfSome left (λ bytes.
     IsNextLine (next_line taken bytes) (line_due bytes) place line behind (Ok there))
     → IfSome left (λ bytes. taken_after ≡ taken + line_take bytes)
     → IfSome behind (λ rest. (due : ℕ)
-    → IsStep (order_step desc base due taken_after asked rest) taken_now left_now result)
+    → IsStep (sized_step desc base due taken_after command size rest) taken_now left_now result)
     → IfSome left (λ bytes. IsStep (step_of desc base taken bytes) taken_now left_now result)
-IsStep-after desc base taken taken_after taken_now place asked line there None behind left_now
-    result is_there is_asked stood counted answer = tt
-IsStep-after desc base taken taken_after taken_now place asked line there (Some bytes) behind
-    left_now result is_there is_asked stood counted answer =
+IsStep-after desc base taken taken_after taken_now place command size line there None behind
+    left_now result is_there read stood counted answer = tt
+IsStep-after desc base taken taken_after taken_now place command size line there (Some bytes) behind
+    left_now result is_there read stood counted answer =
     let line_read = known_line taken place line behind (Some bytes) bytes there refl is_there
     stood in
     subst (λ (step : Step). IsStep step taken_now left_now result)
-    (sym (step_of-line desc base taken taken_after bytes line line_read.0 asked line_read.1
-    counted is_asked))
+    (sym (step_of-line desc base taken taken_after bytes line line_read.0 command size line_read.1
+    counted read))
     (IfSome-known behind line_read.0
     (λ rest. (due : ℕ)
-    → IsStep (order_step desc base due taken_after asked rest) taken_now left_now result)
+    → IsStep (sized_step desc base due taken_after command size rest) taken_now left_now result)
     line_read.2 answer (line_due bytes))
 
--- a fault at the body after a line is one at its step
-pub IsStep-body_fault : (desc : DescOf) (base taken taken_after taken_now place size : ℕ)
-    (head : Option Head) (line body : List ℕ) (there : Bool)
-    (left behind left_now : Option (List ℕ))
-    (fault : ScriptFault)
-    → there ≡ true
-    → order_of desc line ≡ order.Body head size
-    → IfSome left (λ bytes.
-    IsNextLine (next_line taken bytes) (line_due bytes) place line behind (Ok there))
-    → IfSome left (λ bytes. taken_after ≡ taken + line_take bytes)
-    → IfSome behind (λ bytes. IsNextBody (next_body taken_after size bytes) size
-    (base + taken_after) bytes body left_now (Err fault))
-    → IfSome left (λ bytes. IsStep (step_of desc base taken bytes) taken_now left_now (Err fault))
-IsStep-body_fault desc base taken taken_after taken_now place size head line body there left behind
-    left_now fault is_there is_body stood counted answer =
-    IsStep-after desc base taken taken_after taken_now place (order.Body head size) line there
-    left behind left_now (Err fault) is_there is_body stood counted
-    (IfSome_then behind answer (λ rest answer due.
-    IsStep-at_body desc base due taken_after taken_now size head rest body left_now fault answer))
+-- a line whose body is too big stops the session
+pub IsStep-big : (desc : DescOf) (base taken place : ℕ) (command : Result CommandOf CommandFault)
+    (behind : Option (List ℕ))
+    → place ≡ base + taken
+    → IfSome behind (λ rest. (due : ℕ)
+    → IsStep (sized_step desc base due taken command body.TooBig rest) taken behind
+    (Err (Input why.Big place)))
+IsStep-big desc base taken place command None is_place = tt
+IsStep-big desc base taken place command (Some rest) is_place =
+    λ due. (rest, ap (λ (place : ℕ). Ends (Stopped why.Big place rest)) (sym is_place), refl)
 
--- what is done at the body after a line is done at its step
-pub IsStep-body : (desc : DescOf) (base taken taken_after taken_now place size : ℕ)
-    (head : Option Head) (line body : List ℕ) (there : Bool)
-    (left behind left_now : Option (List ℕ))
-    (read : Unit {0}) (work : Work)
-    → there ≡ true
-    → order_of desc line ≡ order.Body head size
-    → IfSome left (λ bytes.
-    IsNextLine (next_line taken bytes) (line_due bytes) place line behind (Ok there))
-    → IfSome left (λ bytes. taken_after ≡ taken + line_take bytes)
-    → IfSome behind (λ bytes. IsNextBody (next_body taken_after size bytes) size
-    (base + taken_after) bytes body left_now (Ok read))
-    → taken_now ≡ taken_after + size
-    → work ≡ body_work desc head body
-    → IfSome left (λ bytes.
-    IsStep (step_of desc base taken bytes) taken_now left_now (Ok (Some work)))
-IsStep-body desc base taken taken_after taken_now place size head line body there left behind
-    left_now read work is_there is_body stood counted answer count is_work =
-    IsStep-after desc base taken taken_after taken_now place (order.Body head size) line there
-    left behind left_now (Ok (Some work)) is_there is_body stood counted
-    (IfSome_then behind answer (λ rest answer due.
-    IsDone-at_body desc base due taken_after taken_now size (base + taken_after) head rest body
-    left_now read work answer count is_work))
+-- a fault at the body after a line is one at its step
+pub IsStep-body_fault : (desc : DescOf) (base taken taken_now size : ℕ)
+    (command : Result CommandOf CommandFault) (body_ : List ℕ)
+    (behind left_now : Option (List ℕ)) (fault : ScriptFault)
+    → IfSome behind (λ bytes. IsNextBody (next_body taken size bytes) size (base + taken) bytes body_
+    left_now (Err fault))
+    → IfSome behind (λ rest. (due : ℕ)
+    → IsStep (sized_step desc base due taken command (body.Body size) rest) taken_now left_now
+    (Err fault))
+IsStep-body_fault desc base taken taken_now size command body_ behind left_now fault answer =
+    IfSome_then behind answer (λ rest answer due.
+    IsStep-at_body desc base due taken taken_now size command rest body_ left_now fault answer)

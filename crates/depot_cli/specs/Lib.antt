@@ -1,10 +1,10 @@
-pub mod Orders
+pub mod Items
 pub mod Reading
 pub mod ScriptCalls
 pub mod SerialJournal
 pub mod KeptJournals
 pub mod JournalView
-pub mod Texts
+pub mod Answers
 pub mod Replies
 pub mod Runs
 pub mod Acceptance

@@ -1,22 +1,21 @@
 -- The reading of a script: what its bytes say, item by item, and how it ends.
-use Rattle.std.specs.Prelude.{ℕ, zero, suc, ◌+◌, ◌-◌, List, [], ◌∷◌, Option, Some, None, nat_lt}
+use Rattle.std.specs.Prelude.{ℕ, zero, suc, ◌+◌, ◌-◌, List, [], ◌∷◌, nat_lt}
 use Rattle.std.specs.Prelude.{nat_le, if◌then◌else◌, length, take, drop, min, Result, Ok, Err}
 use Rattle.std.specs.Io.BufRead.{first_line}
 use Rattle.depot_io.specs.Lines.{LIMIT, line_take, span}
 use Rattle.desc_lines.specs.Words.{words, is_empty, is_go}
-use Rattle.desc_types.specs.declared.delivery.DRow.{DRow}
 use Rattle.table_desc.specs.declared.fault.BadLine.{BadLine}
 use Rattle.desc_types.specs.Descriptions.{DescOf}
 use Rattle.table_desc.specs.Drafts.{drafted}
-use Rattle.depot_cli.specs.declared.script.order.Head.{Head}
-use Rattle.depot_cli.specs.declared.script.order.Order.{Order}
-use Rattle.depot_cli.specs.declared.script.order.Order.TheVariants as order
 use Rattle.depot_cli.specs.declared.script.work.Work.{Work}
-use Rattle.depot_cli.specs.declared.script.work.Work.TheVariants as work
 use Rattle.depot_cli.specs.declared.run.status.InputEnd.{InputEnd}
 use Rattle.depot_cli.specs.declared.run.status.InputEnd.TheVariants as why
-use Rattle.depot_cli.specs.Orders.{order_of}
-use Rattle.feed_csv.specs.Bodies.{rows_of}
+use Rattle.depot_cli.specs.Items.{is_end, work_of}
+use Rattle.depot_script.specs.declared.body.BodySize.{BodySize}
+use Rattle.depot_script.specs.declared.body.BodySize.TheVariants as body
+use Rattle.depot_script.specs.declared.fault.CommandFault.{CommandFault}
+use Rattle.depot_script.specs.CommandValues.{CommandOf}
+use Rattle.depot_script.specs.Commands.{body_size, line_command}
 
 -- what the next line of an input is: there is none, it cannot be read, or it is there; with what
 -- is left after it, or after what was taken to tell that
@@ -107,41 +106,34 @@ abbrev pub body_due : (due size : ℕ) → List ℕ → ℕ
 body_due due zero bytes = due
 body_due due (suc size) bytes = length bytes - size
 
--- what a body asks for by its rows
-abbrev pub load_of : Head → Option (List DRow) → Work
-load_of head None = work.Refused
-load_of head (Some rows) =
-    work.Load (record { feed = head.feed; number = head.number; closes = 0; rows = rows })
-
--- what a body asks for: it is refused with its line
-abbrev pub body_work : DescOf → Option Head → List ℕ → Work
-body_work desc None body = work.Refused
-body_work desc (Some head) body = load_of head (rows_of desc head.feed body)
-
--- the step at a body of this size, after its line
-abbrev pub body_step : DescOf → (base due taken : ℕ) → Option Head → (size : ℕ) → NextBody → Step
-body_step desc base due taken head size (Unfinished cause rest) =
+-- the step of a line with a body of this size
+abbrev pub body_step : DescOf → (base due taken : ℕ) → Result CommandOf CommandFault → (size : ℕ)
+    → NextBody → Step
+body_step desc base due taken command size (Unfinished cause rest) =
     Ends (Stopped cause (base + taken) rest)
-body_step desc base due taken head size (Body body rest) =
-    Does (body_work desc head body) due (taken + size) rest
+body_step desc base due taken command size (Body body rest) =
+    Does (work_of desc command body) due (taken + size) rest
 
--- the step that an order asks for, after its line
-abbrev pub order_step : DescOf → (base due taken : ℕ) → Order → List ℕ → Step
-order_step desc base due taken order.Nothing rest = Does work.Nothing due taken rest
-order_step desc base due taken (order.Query item) rest = Does (work.Query item) due taken rest
-order_step desc base due taken order.Drain rest = Does work.Drain due taken rest
-order_step desc base due taken order.End rest = Ends (Ended rest)
-order_step desc base due taken order.Refused rest = Does work.Refused due taken rest
-order_step desc base due taken (order.Body head size) rest =
-    body_step desc base (body_due due size rest) taken head size (next_body taken size rest)
-order_step desc base due taken order.BigBody rest = Ends (Stopped why.Big (base + taken) rest)
+-- the step of a line without a body: the line `end` ends the session
+abbrev pub bare_step : DescOf → (due taken : ℕ) → Result CommandOf CommandFault → List ℕ → Step
+bare_step desc due taken command rest =
+    if is_end command then Ends (Ended rest) else Does (work_of desc command []) due taken rest
+
+-- the step of a line, after it, by the size of its body
+abbrev pub sized_step : DescOf → (base due taken : ℕ) → Result CommandOf CommandFault → BodySize
+    → List ℕ → Step
+sized_step desc base due taken command body.NoBody rest = bare_step desc due taken command rest
+sized_step desc base due taken command (body.Body size) rest =
+    body_step desc base (body_due due size rest) taken command size (next_body taken size rest)
+sized_step desc base due taken command body.TooBig rest = Ends (Stopped why.Big (base + taken) rest)
 
 -- the step at a line
 abbrev pub line_step : DescOf → (base taken : ℕ) → (bytes : List ℕ) → NextLine → Step
 line_step desc base taken bytes NoLine = Ends (Ended [])
 line_step desc base taken bytes (Unreadable cause rest) = Ends (Stopped cause (base + taken) rest)
 line_step desc base taken bytes (Line line rest) =
-    order_step desc base (line_due bytes) (taken + line_take bytes) (order_of desc line) rest
+    sized_step desc base (line_due bytes) (taken + line_take bytes) (line_command desc line)
+    (body_size line) rest
 
 -- the next step of a session, whose input begins at the place `base` and of which so many bytes
 -- were taken

@@ -1,5 +1,6 @@
 -- What is written in reply to the items of a script.
 use Rattle.std.specs.Prelude.{ℕ, ◌+◌, List, [], ◌∷◌, ◌++◌, Bool, true, false, if◌then◌else◌, length}
+use Rattle.std.specs.Prelude.{flat_map}
 use Rattle.std.specs.List.{list_any}
 use Rattle.desc_types.specs.Deliveries.{DeliveryOf}
 use Rattle.desc_types.specs.Descriptions.{DescOf}
@@ -11,8 +12,9 @@ use Rattle.view_meaning.specs.Shown.{shown}
 use Rattle.depot_cli.specs.declared.script.work.Work.{Work}
 use Rattle.depot_cli.specs.declared.script.work.Work.TheVariants as work
 use Rattle.depot_cli.specs.SerialJournal.{journal_after}
-use Rattle.depot_cli.specs.Texts.{feed_name, table_name, loaded_text, repeat_text, refused_text}
-use Rattle.depot_cli.specs.Texts.{drained_text, answer_text}
+use Rattle.depot_script.specs.Texts.{drained_text, loaded_text, refused_text, repeat_text}
+use Rattle.depot_cli.specs.Items.{refusal_record, refusal_text}
+use Rattle.depot_cli.specs.Answers.{feed_name, whole_answer}
 
 -- what loading a delivery after a journal does
 abbrev pub loaded : DescOf → List Entry → DeliveryOf → Loaded
@@ -31,12 +33,13 @@ load_reply desc journal delivery =
 -- the reply to the item of a line, after this journal
 abbrev pub reply : DescOf → (line : ℕ) → List Entry → Work → List ℕ
 reply desc line journal work.Nothing = []
-reply desc line journal work.Refused = refused_text line
+reply desc line journal (work.Refused refusal) =
+    refused_text line (refusal_record refusal) (refusal_text refusal)
 reply desc line journal (work.Load delivery) = load_reply desc journal delivery
 reply desc line journal work.Drain =
     drained_text (length (journal_after desc journal work.Drain))
-reply desc line journal (work.Query item) =
-    answer_text (table_name desc item.table) (length journal) (shown desc journal item)
+reply desc line journal (work.Query items) =
+    whole_answer desc (length journal) (flat_map (shown desc journal) items)
 
 -- the replies to items, one a line from this line on, each after the journal that those before it
 -- made
@@ -48,7 +51,7 @@ replies desc line journal (item ∷ items) =
 -- whether an item is refused
 abbrev pub is_refused : Work → Bool
 is_refused work.Nothing = false
-is_refused work.Refused = true
+is_refused (work.Refused _) = true
 is_refused (work.Load _) = false
 is_refused work.Drain = false
 is_refused (work.Query _) = false

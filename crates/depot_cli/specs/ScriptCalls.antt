@@ -10,7 +10,7 @@ use Rattle.depot_cli.specs.declared.run.status.Status.{Status}
 use Rattle.depot_cli.specs.declared.run.status.Status.TheVariants as status
 use Rattle.depot_cli.specs.declared.script.work.Work.{Work}
 use Rattle.depot_cli.specs.declared.script.work.Work.TheVariants as work
-use Rattle.partition_map.specs.Time.{END}
+use Rattle.query_pin.specs.Requests.{request_fault}
 use Rattle.desc_types.specs.Descriptions.{DescOf}
 use Rattle.depot_cli.specs.SerialJournal.{journal_after}
 use Rattle.depot_cli.specs.KeptJournals.{IsCutShort, JournalOf}
@@ -100,13 +100,13 @@ IsScriptCause before now (Err (Input _ _)) = now ≡ before
 IsScriptCause before now (Err Memory) = now ≡ before
 IsScriptCause before now (Ok _) = now ≡ before
 
--- a query asks for ticks in order and in time
-abbrev pub IsAnswerable : Work → Type 0
-IsAnswerable work.Nothing = ⊤
-IsAnswerable work.Refused = ⊤
-IsAnswerable (work.Load _) = ⊤
-IsAnswerable work.Drain = ⊤
-IsAnswerable (work.Query item) = (item.from ≤ item.to) × (item.to ≤ END)
+-- no test speaks against what a query asks for
+abbrev pub IsAnswerable : DescOf → Work → Type 0
+IsAnswerable desc work.Nothing = ⊤
+IsAnswerable desc (work.Refused _) = ⊤
+IsAnswerable desc (work.Load _) = ⊤
+IsAnswerable desc work.Drain = ⊤
+IsAnswerable desc (work.Query items) = request_fault desc items ≡ None
 
 -- the status of a script that was not read on
 abbrev pub status_of_fault : ScriptFault → Status

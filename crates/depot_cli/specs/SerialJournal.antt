@@ -14,7 +14,7 @@ use Rattle.depot_cli.specs.declared.script.work.Work.TheVariants as work
 -- partition of a view that is not settled, and nothing else changes it
 abbrev pub journal_after : DescOf → List Entry → Work → List Entry
 journal_after desc journal work.Nothing = journal
-journal_after desc journal work.Refused = journal
+journal_after desc journal (work.Refused _) = journal
 journal_after desc journal (work.Load delivery) =
     if is_repeat journal delivery then journal else journal ++ entry.Load delivery ∷ []
 journal_after desc journal work.Drain = drained desc journal

@@ -1,10 +1,7 @@
 //! What is done for each item of a script, and what is written in reply.
 
-pub mod rows_text;
-pub mod texts;
-
 ghost use Rattle.std.specs.Prelude.{◌≡◌, ◌+◌, ◌<◌, ◌≤◌, ◌^◌, ◌++◌, true, false, length, map};
-ghost use Rattle.std.specs.Prelude.{flat_map, IfOk, OnErr, OnOk, slice_get, option_copied, Some};
+ghost use Rattle.std.specs.Prelude.{flat_map, IfOk, OnErr, OnOk, slice_get, Some};
 ghost use Rattle.partition_map.specs.Time.{END};
 ghost use Rattle.view_meaning.specs.Growth.{BeginsWith};
 ghost use Rattle.view_meaning.specs.Shown.{shown, shown_part};
@@ -16,18 +13,21 @@ ghost use Rattle.depot_cli.specs.declared.script.work.Work.TheVariants as work;
 ghost use Rattle.depot_cli.specs.ScriptCalls.{IsAnswerable};
 ghost use Rattle.depot_cli.specs.KeptJournals.{DrainsSome, IsCutShort, IsKept};
 ghost use Rattle.depot_cli.specs.SerialJournal.{journal_after};
-ghost use Rattle.depot_cli.specs.Texts.{answer_text, drained_text, feed_name, shown_text};
-ghost use Rattle.depot_cli.specs.Texts.{table_name};
+ghost use Rattle.depot_script.specs.Texts.{drained_text, part_text, refused_text, rows_text};
+ghost use Rattle.desc_types.specs.Sources.{table_width};
+ghost use Rattle.partition_map.specs.Partitions.{parts_met};
+ghost use Rattle.query_pin.specs.Requests.{count_all, count_asked};
+ghost use Rattle.depot_cli.specs.Answers.{AreFine, IsFine, feed_name, shown_text, whole_answer};
+ghost use Rattle.depot_cli.specs.Items.{refusal_record, refusal_text};
 ghost use Rattle.depot_cli.specs.Replies.{load_reply, reply};
 
 use crate::book::drain::drain;
 use crate::book::journal::Journal;
-use crate::reply::rows_text::rows_text;
-use crate::reply::texts::{
-    answer_line, drained_text, loaded_text, part_text, refused_text, repeat_text,
-};
-use crate::script::work::Work;
+use crate::script::work::{Refusal, Work};
 use depot_cell::{Memory, Rows};
+use depot_script::{
+    answer_text, drained_text, loaded_text, part_text, refused_text, repeat_text, rows_text,
+};
 use desc_types::{AcceptedDesc, Delivery, Key, Kind, Table};
 use partition_map::{Parts, parts_of_span};
 use std::alloc::Global;
@@ -43,7 +43,7 @@ pub fn answer(
     work: Work,
 ) -> Result<Vec<u8>, Memory>
     requires kept { IsKept served.now.desc journal.old }
-    requires in_range { IsAnswerable work }
+    requires in_range { IsAnswerable served.now.desc work }
     ensures exact { IfOk result (λ text.
         text.items ≡ reply served.now.desc line journal.old.entries work) }
     ensures ok { OnOk result
@@ -54,10 +54,10 @@ pub fn answer(
 {
     match work {
         Work::Nothing => Ok(Vec::new(alloc)),
-        Work::Refused => refused_text(alloc, line),
+        Work::Refused(refusal) => refusal_reply(alloc, line, refusal),
         Work::Load(delivery) => load(alloc, served, journal, delivery),
         Work::Drain => drain_text(alloc, served, journal),
-        Work::Query(item) => query_text(alloc, served, journal, item),
+        Work::Query(request) => query_text(alloc, served, journal, &request.items),
     }
 }
 
@@ -118,35 +118,89 @@ fn feed_name(served: &AcceptedDesc, feed: u16) -> &[u8]
     }
 }
 
-/// The answer to a query: the partitions of its table that it asks for, each with its rows.
+/// Tells that an item was refused, and why.
+fn refusal_reply(alloc: Global, line: u64, refusal: Refusal) -> Result<Vec<u8>, Memory>
+    ensures exact { IfOk result (λ text. text.items
+        ≡ refused_text line (refusal_record refusal) (refusal_text refusal)) }
+{
+    match refusal {
+        Refusal::Line(fault) => refused_text(alloc, line, None, fault.text()),
+        Refusal::Later => refused_text(alloc, line, None, "later"),
+        Refusal::Record(bad) => {
+            refused_text(alloc, line, Some(u64::from(bad.number)), bad.cause.text())
+        }
+        Refusal::Request(fault) => refused_text(alloc, line, None, fault.text()),
+    }
+}
+
+/// The answer to a query: the partitions that each item asks for, with their rows.
 fn query_text(
     alloc: Global,
     served: &AcceptedDesc,
     journal: &Journal,
-    item: Item,
+    items: &[Item],
 ) -> Result<Vec<u8>, Memory>
     requires kept { IsKept served.now.desc journal.now }
-    requires in_order { item.from ≤ item.to }
-    requires in_time { item.to ≤ END }
+    requires fine { AreFine served.now.desc items.now }
     ensures exact { IfOk result (λ text. text.items
-        ≡ answer_text (table_name served.now.desc item.table) (length journal.now.entries)
-        (shown served.now.desc journal.now.entries item)) }
+        ≡ whole_answer served.now.desc (length journal.now.entries)
+        (flat_map (shown served.now.desc journal.now.entries) items.now)) }
 {
-    let table = match table_at(served, item.table) {
-        Some(table) => table,
-        None => return answer_line(alloc, journal.len(), 0),
-    };
-    let parts = parts_of_span(table.width, item.from, item.to);
-    let mut text = answer_line(alloc, journal.len(), parts.count)?;
-    put_parts(alloc, served, journal, table, item.table, parts, &mut text)?;
+    let mut text = answer_text(alloc, journal.len(), count_all(served, items))?;
+    'items: for item in items {
+        put_item(alloc, served, journal, item, &mut text)?;
+    }
     Ok(text)
 }
 
-/// The table with this number.
-fn table_at(served: &AcceptedDesc, number: u16) -> Option<&Table>
-    ensures exact { option_copied result ≡ slice_get served.now.desc.tables number }
+/// How many partitions items ask for.
+fn count_all(served: &AcceptedDesc, items: &[Item]) -> u64
+    requires fine { AreFine served.now.desc items.now }
+    ensures exact { result ≡ count_all served.now.desc items.now }
 {
-    served.desc.tables.get(number as usize)
+    let mut count = 0;
+    'items: for item in items {
+        count += parts_of(served, item).count;
+    }
+    count
+}
+
+/// The partitions that an item asks for.
+fn parts_of(served: &AcceptedDesc, item: &Item) -> Parts
+    requires fine { IsFine served.now.desc item.now }
+    ensures exact { parts_met (table_width served.now.desc item.now.table) item.now.from item.now.to
+        ≡ range_with_len result.first result.count }
+    ensures count { result.count ≡ count_asked served.now.desc item.now }
+    ensures within { result.first + result.count ≤ END }
+{
+    parts_of_span(served.table(item.table).width, item.from, item.to)
+}
+
+/// Puts the partitions that an item asks for after a text.
+fn put_item(
+    alloc: Global,
+    served: &AcceptedDesc,
+    journal: &Journal,
+    item: &Item,
+    text: &mut Vec<u8>,
+) -> Result<(), Memory>
+    requires kept { IsKept served.now.desc journal.now }
+    requires fine { IsFine served.now.desc item.now }
+    ensures ok { OnOk result (text.new.items ≡ text.old.items
+        ++ flat_map (shown_text served.now.desc)
+        (shown served.now.desc journal.now.entries item.now)) }
+    ensures err { OnErr result (BeginsWith text.old.items text.new.items) }
+{
+    let parts = parts_of(served, item);
+    put_parts(
+        alloc,
+        served,
+        journal,
+        served.table(item.table),
+        item.table,
+        parts,
+        text,
+    )
 }
 
 /// Puts a run of partitions of a table after a text.
@@ -163,7 +217,7 @@ fn put_parts(
     requires there { slice_get served.now.desc.tables number ≡ Some table.now }
     requires in_time { parts.first + parts.count < 2 ^ 64 }
     ensures ok { OnOk result (text.new.items ≡ text.old.items
-        ++ flat_map (shown_text table.now.name) (map
+        ++ flat_map (shown_text served.now.desc) (map
         (λ part. shown_part served.now.desc journal.now.entries
         (record { table = number; part = part }))
         (range_with_len parts.first parts.count))) }
@@ -191,7 +245,7 @@ fn shown_text(
     requires kept { IsKept served.now.desc journal.now }
     requires there { slice_get served.now.desc.tables key.table ≡ Some table.now }
     ensures exact { IfOk result (λ text. text.items
-        ≡ shown_text table.now.name (shown_part served.now.desc journal.now.entries key)) }
+        ≡ shown_text served.now.desc (shown_part served.now.desc journal.now.entries key)) }
 {
     if is_raw(&table.kind) {
         raw_text(alloc, served, journal, table, key)
@@ -211,7 +265,7 @@ fn raw_text(
     requires there { slice_get served.now.desc.tables key.table ≡ Some table.now }
     requires raw { is_raw_kind table.now.kind ≡ true }
     ensures exact { IfOk result (λ text. text.items
-        ≡ shown_text table.now.name (shown_part served.now.desc journal.now.entries key)) }
+        ≡ shown_text served.now.desc (shown_part served.now.desc journal.now.entries key)) }
 {
     let rows = plain_value(alloc, &served.desc, journal.accepted(), key)?;
     let item = PinItem {
@@ -235,7 +289,7 @@ fn view_text(
     requires there { slice_get served.now.desc.tables key.table ≡ Some table.now }
     requires view { is_raw_kind table.now.kind ≡ false }
     ensures exact { IfOk result (λ text. text.items
-        ≡ shown_text table.now.name (shown_part served.now.desc journal.now.entries key)) }
+        ≡ shown_text served.now.desc (shown_part served.now.desc journal.now.entries key)) }
 {
     match journal.latest(key) {
         Some(version) => {
@@ -267,7 +321,7 @@ fn part_and_rows(
     rows: &Rows,
 ) -> Result<Vec<u8>, Memory>
     ensures exact { IfOk result (λ text. text.items
-        ≡ shown_text table.now.name (record { item = item.now; rows = rows.now })) }
+        ≡ part_text table.now.name item.now (length rows.now) ++ rows_text rows.now) }
 {
     let count = rows.rows().len() as u64;
     let mut text = part_text(alloc, table.name.as_bytes(), item, count)?;

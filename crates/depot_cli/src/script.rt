@@ -1,30 +1,38 @@
 //! Reading a script: its lines and bodies, and what each asks for.
 
-pub mod order;
 pub mod work;
 
 ghost use Rattle.std.specs.Prelude.{◌≡◌, ◌+◌, ◌≤◌, ◌<◌, length, IfSome, IfOk, IfErr, OnOk, OnSome};
 ghost use Rattle.std.specs.Prelude.{Ok, true};
+ghost use Rattle.std.specs.List.{list_any};
 ghost use Rattle.depot_io.specs.Lines.{LIMIT, line_take};
 ghost use Rattle.depot_io.specs.Reading.{ReadsOn};
 ghost use Rattle.desc_lines.specs.Words.{is_go, words};
-ghost use Rattle.depot_cli.specs.Orders.{BODY_LIMIT};
+ghost use Rattle.depot_script.specs.Commands.{body_size, line_command};
+ghost use Rattle.depot_script.specs.Faults.{BODY_LIMIT};
+ghost use Rattle.depot_script.specs.Values.{command_value, read_value};
+ghost use Rattle.query_pin.specs.Requests.{request_fault};
+ghost use Rattle.feed_csv.specs.Bodies.{delivery_of};
+ghost use Rattle.depot_cli.specs.Items.{asked, asking, has_level, is_end, is_later, loading};
+ghost use Rattle.depot_cli.specs.Items.{work_of};
 ghost use Rattle.depot_cli.specs.Reading.{line_due, next_line, next_body};
-ghost use Rattle.depot_cli.specs.Reading.{body_work as work_of_body, step_of, opening};
+ghost use Rattle.depot_cli.specs.Reading.{step_of, opening};
 ghost use Rattle.depot_cli.specs.Runs.{EndsSession};
 ghost use Rattle.depot_cli.specs.ScriptCalls.{status_of_fault, IsAnswerable, IsNextLine};
 ghost use Rattle.depot_cli.specs.ScriptCalls.{IsNextBody, IsOpening, IsStep, IsScriptCause};
 
 use crate::run::status::InputEnd;
-use crate::script::order::{Head, Order, read_order};
-use crate::script::work::Work;
+use crate::script::work::{Refusal, Work};
 use depot_cell::Memory;
 use depot_io::{Line, LineFault, LineReader, Source};
+use depot_script::{BodySize, Command, CommandFault, body_size, read_command};
 use desc_lines::{is_go, words_of};
-use desc_types::{AcceptedDesc, Delivery};
-use feed_csv::read_rows;
+use desc_types::AcceptedDesc;
+use feed_csv::{DeliveryFault, read_delivery};
+use query_pin::{Request, check_request};
 use std::alloc::Global;
 use table_desc::Draft;
+use view_meaning::{Item, Mark};
 
 /// Why a script was not read on.
 #[derive(Clone, Copy, Debug, PartialEq, Eq, Drop)]
@@ -113,27 +121,142 @@ fn take_body<S: Source>(
     }
 }
 
-/// What a body asks for: it is refused with its line.
-fn body_work(
+/// The command of a line or its first fault, and the body after it.
+fn read_line(
     alloc: Global,
     served: &AcceptedDesc,
-    head: Option<Head>,
+    line: &[u8],
+) -> Result<(Result<Command, CommandFault>, BodySize), Memory>
+    ensures command { IfOk result (λ read.
+        read_value read.0 ≡ line_command served.now.desc line.now) }
+    ensures size { IfOk result (λ read. read.1 ≡ body_size line.now) }
+{
+    let words = words_of(alloc, line)?;
+    Ok((read_command(alloc, served, &words)?, body_size(&words)))
+}
+
+/// What a line asks for, with the body after it.
+fn work_of(
+    alloc: Global,
+    served: &AcceptedDesc,
+    command: Result<Command, CommandFault>,
     body: &[u8],
 ) -> Result<Work, Memory>
-    requires { length body.now ≤ BODY_LIMIT }
-    ensures exact { IfOk result (λ work. work ≡ work_of_body served.now.desc head body.now) }
+    requires few { length body.now ≤ BODY_LIMIT }
+    ensures exact { IfOk result (λ work.
+        work ≡ work_of served.now.desc (read_value command) body.now) }
+    ensures in_range { IfOk result (IsAnswerable served.now.desc) }
 {
-    let Some(head) = head else {
-        return Ok(Work::Refused);
-    };
-    match read_rows(alloc, served, head.feed, body)? {
-        Some(rows) => Ok(Work::Load(Delivery {
-            feed: head.feed,
-            number: head.number,
-            closes: 0,
-            rows,
-        })),
-        None => Ok(Work::Refused),
+    match command {
+        Ok(command) => {
+            if is_later(&command) {
+                Ok(Work::Refused(Refusal::Later))
+            } else {
+                asked(alloc, served, command, body)
+            }
+        }
+        Err(fault) => Ok(Work::Refused(Refusal::Line(fault))),
+    }
+}
+
+/// Whether a line ends the session.
+fn is_end(command: &Result<Command, CommandFault>) -> bool
+    ensures exact { result ≡ is_end (read_value command.now) }
+{
+    match command {
+        Ok(Command::End) => true,
+        Ok(Command::Nothing | Command::Deliver { .. } | Command::Drain | Command::Query(_)) =>
+            false,
+        Ok(Command::Marks(_) | Command::Aside { .. } | Command::Reclaim) | Err(_) => false,
+    }
+}
+
+/// Whether a command is of a form that is not built yet.
+fn is_later(command: &Command) -> bool
+    ensures exact { result ≡ is_later (command_value command.now) }
+{
+    match command {
+        Command::Deliver { closes, .. } => *closes > 0,
+        Command::Query(request) => have_level(&request.items),
+        Command::Marks(_) | Command::Aside { .. } | Command::Reclaim => true,
+        Command::Nothing | Command::Drain | Command::End => false,
+    }
+}
+
+/// Whether some item of a query has a level.
+fn have_level(items: &[Item]) -> bool
+    ensures exact { result ≡ list_any has_level items.now }
+{
+    items.iter().any(|item| has_level(*item))
+}
+
+/// Whether an item of a query has a level.
+fn has_level(item: Item) -> bool
+    ensures exact { result ≡ has_level item }
+{
+    match item.level {
+        Mark::Open => false,
+        Mark::Closed | Mark::Complete => true,
+    }
+}
+
+/// What a command asks for that is built, with the body after its line.
+fn asked(
+    alloc: Global,
+    served: &AcceptedDesc,
+    command: Command,
+    body: &[u8],
+) -> Result<Work, Memory>
+    requires few { length body.now ≤ BODY_LIMIT }
+    ensures exact { IfOk result (λ work.
+        work ≡ asked served.now.desc (command_value command) body.now) }
+    ensures in_range { IfOk result (IsAnswerable served.now.desc) }
+{
+    match command {
+        Command::Nothing | Command::End => Ok(Work::Nothing),
+        Command::Deliver {
+            feed,
+            number,
+            closes,
+            ..
+        } => loading(alloc, served, feed, number, closes, body),
+        Command::Drain => Ok(Work::Drain),
+        Command::Query(request) => Ok(asking(served, request)),
+        Command::Marks(_) | Command::Aside { .. } | Command::Reclaim => {
+            Ok(Work::Refused(Refusal::Later))
+        }
+    }
+}
+
+/// What the body of a delivery asks for.
+fn loading(
+    alloc: Global,
+    served: &AcceptedDesc,
+    feed: u16,
+    number: u32,
+    closes: u64,
+    body: &[u8],
+) -> Result<Work, Memory>
+    requires few { length body.now ≤ BODY_LIMIT }
+    ensures exact { IfOk result (λ work.
+        work ≡ loading (delivery_of served.now.desc feed number closes body.now)) }
+    ensures in_range { IfOk result (IsAnswerable served.now.desc) }
+{
+    match read_delivery(alloc, served, feed, number, closes, body) {
+        Ok(delivery) => Ok(Work::Load(delivery)),
+        Err(DeliveryFault::At(bad)) => Ok(Work::Refused(Refusal::Record(bad))),
+        Err(DeliveryFault::Memory) => Err(Memory),
+    }
+}
+
+/// What a query asks for.
+fn asking(served: &AcceptedDesc, request: Request) -> Work
+    ensures exact { result ≡ asking request (request_fault served.now.desc request) }
+    ensures in_range { IsAnswerable served.now.desc result }
+{
+    match check_request(served, &request) {
+        Ok(()) => Work::Query(request),
+        Err(fault) => Work::Refused(Refusal::Request(fault)),
     }
 }
 
@@ -151,7 +274,7 @@ pub fn next_work<S: Source>(
     ensures answer { IfSome (S.bytes_left reader.old.source) (λ bytes.
         IsStep (step_of served.now.desc base reader.old.taken bytes) reader.new.taken
         (S.bytes_left reader.new.source) result) }
-    ensures in_range { IfOk result (λ work. IfSome work IsAnswerable) }
+    ensures in_range { IfOk result (λ work. IfSome work (IsAnswerable served.now.desc)) }
     ensures more { IfOk result (λ work. OnSome work (reader.old.taken < reader.new.taken)) }
     ensures others { IfErr result (λ fault. EndsSession (status_of_fault fault)) }
     ensures cause { IsScriptCause (S.faults reader.old.source) (S.faults reader.new.source) result }
@@ -160,19 +283,22 @@ pub fn next_work<S: Source>(
     if !take_line(base, reader)? {
         return Ok(None);
     }
-    match read_order(alloc, served, reader.line())? {
-        Order::Nothing => Ok(Some(Work::Nothing)),
-        Order::Refused => Ok(Some(Work::Refused)),
-        Order::Drain => Ok(Some(Work::Drain)),
-        Order::Query(item) => Ok(Some(Work::Query(item))),
-        Order::End => Ok(None),
-        Order::BigBody => Err(ScriptFault::Input {
+    let (command, size) = read_line(alloc, served, reader.line())?;
+    match size {
+        BodySize::NoBody => {
+            if is_end(&command) {
+                Ok(None)
+            } else {
+                Ok(Some(work_of(alloc, served, command, &[])?))
+            }
+        }
+        BodySize::TooBig => Err(ScriptFault::Input {
             why: InputEnd::Big,
             place: base + reader.taken(),
         }),
-        Order::Body { head, size } => {
+        BodySize::Body(size) => {
             take_body(base, size, reader, body)?;
-            Ok(Some(body_work(alloc, served, head, body)?))
+            Ok(Some(work_of(alloc, served, command, body)?))
         }
     }
 }

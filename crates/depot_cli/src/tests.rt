@@ -6,7 +6,7 @@
 //! it saw if that is not what it was to see.
 
 mod ends;
-mod lines;
+mod items;
 mod runs;
 mod texts;
 

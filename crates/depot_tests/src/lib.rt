@@ -11,6 +11,8 @@ mod canonical;
 #[cfg(test)]
 mod cells;
 #[cfg(test)]
+mod commands;
+#[cfg(test)]
 mod descriptions;
 #[cfg(test)]
 mod lines;
@@ -20,6 +22,8 @@ mod meaning;
 mod operations;
 #[cfg(test)]
 mod partitions;
+#[cfg(test)]
+mod requests;
 #[cfg(test)]
 mod streams;
 #[cfg(test)]

@@ -98,7 +98,7 @@ fn serve_item<O: Sink>(
     sink: &mut O,
 ) -> Result<(), Status>
     requires kept { IsKept served.now.desc journal.old }
-    requires in_range { IsAnswerable work }
+    requires in_range { IsAnswerable served.now.desc work }
     ensures replied { IsReplied (O.bytes_got sink.old) (O.bytes_got sink.new)
         (reply served.now.desc line journal.old.entries work) result }
     ensures room { IsReplyRoom (O.room sink.old) (O.room sink.new)
@@ -124,7 +124,7 @@ fn is_refused(work: &Work) -> bool
     ensures exact { result ≡ is_refused work.now }
 {
     match work {
-        Work::Refused => true,
+        Work::Refused(_) => true,
         Work::Nothing | Work::Load(_) | Work::Drain | Work::Query(_) => false,
     }
 }

@@ -13,12 +13,15 @@ deliver f 0 0 17\nr,3,a,5\nr,12,b,2\ndrain\nquery big 0 20\n";
 
 const LOADED: &[u8] = b"loaded f 0 entry 1 kept 2 aside 0\n";
 
-const LOADED_REFUSED: &[u8] = b"loaded f 0 entry 1 kept 2 aside 0\nrefused 2 later\n";
+const LOADED_BAD_WORD: &[u8] = b"loaded f 0 entry 1 kept 2 aside 0\nrefused 2 bad_word\n";
 
 const DRAINED: &[u8] = b"loaded f 0 entry 1 kept 2 aside 0\ndrained at 3\n";
 
-const DRAINED_REFUSED: &[u8] =
-    b"loaded f 0 entry 1 kept 2 aside 0\ndrained at 3\nrefused 3 later\n";
+const DRAINED_BAD_WORD: &[u8] =
+    b"loaded f 0 entry 1 kept 2 aside 0\ndrained at 3\nrefused 3 bad_word\n";
+
+const DRAINED_BAD_COUNT: &[u8] =
+    b"loaded f 0 entry 1 kept 2 aside 0\ndrained at 3\nrefused 3 bad_count\n";
 
 const FIRST: &[u8] = b"loaded f 0 entry 1 kept 2 aside 0\ndrained at 3\n\
 answer at 3 parts 1\npart big 0 version 1 upto 1 mark open rows 1\n3,a,5\n";
@@ -40,15 +43,18 @@ fn cut_at(len: usize) -> (Status, &'static [u8]) {
         // The `go` line is whole without its LF.
         0..=119 => (input(InputEnd::NoGo, len), b""),
         120..=121 => (Status::Done, b""),
-        // A front of the `deliver` line has fewer than five words, or a size and no LF.
-        122..=135 => (Status::Refused, b"refused 1 later\n"),
+        // A front of the `deliver` line has no command, fewer than five words, or a size and no LF.
+        122..=127 => (Status::Refused, b"refused 1 bad_word\n"),
+        128..=135 => (Status::Refused, b"refused 1 bad_count\n"),
         136..=137 => (input(InputEnd::Cut, len), b""),
         138..=154 => (input(InputEnd::Cut, 138), b""),
         155 => (Status::Done, LOADED),
-        156..=159 => (Status::Refused, LOADED_REFUSED),
+        156..=159 => (Status::Refused, LOADED_BAD_WORD),
         160..=161 => (Status::Done, DRAINED),
-        // A front of the query's line has too few words, and then asks for the ticks 0 and 1.
-        162..=173 => (Status::Refused, DRAINED_REFUSED),
+        // A front of the query's line has no command, too few words, and then asks for the ticks 0
+        // and 1.
+        162..=165 => (Status::Refused, DRAINED_BAD_WORD),
+        166..=173 => (Status::Refused, DRAINED_BAD_COUNT),
         174 => (Status::Done, FIRST),
         _ => (Status::Done, ALL),
     }
@@ -65,7 +71,7 @@ fn an_input_may_end_early(rt: HostRuntime) -> Result<(), Fail> {
 
 /// Lines that stand in place of the query: so many `x`, what follows them, and how the run ends.
 static LAST_LINES: [(usize, &[u8], Status, &[u8]); 4] = [
-    (4_096, b"\nend\nx", Status::Refused, DRAINED_REFUSED),
+    (4_096, b"\nend\nx", Status::Refused, DRAINED_BAD_WORD),
     (4_097, b"\nend\n", LONG_LINE, DRAINED),
     (0, b"deliver x y z 16777216\n", CUT, DRAINED),
     (0, b"deliver x y z 16777217\n", BIG, DRAINED),

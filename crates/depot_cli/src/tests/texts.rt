@@ -1,31 +1,11 @@
-//! Tests of texts: of the replies, of statuses, and those that the first word asks for.
+//! Tests of texts: of statuses, and those that the first word asks for.
 
-use super::expect_bytes;
-use crate::reply::texts::{part_text, refused_text};
 use crate::run::help::{print, text_asked};
 use crate::run::status::{InputEnd, Status};
 use depot_io::VecSink;
 use desc_causes::DescCause;
-use desc_types::Key;
 use std::alloc::Global;
 use std::test::Fail;
-use view_meaning::{Mark, PinItem};
-
-/// The stored run shows each other text of a reply.
-#[test]
-fn some_texts_come_in_no_session_yet(rt: HostRuntime) -> Result<(), Fail> {
-    let alloc = rt.alloc();
-    let refused = refused_text(alloc, u64::MAX)?;
-    expect_bytes(&refused, b"refused 18446744073709551615 later\n")?;
-    let item = PinItem {
-        key: Key { table: 0, part: 7 },
-        version: 1,
-        upto: 2,
-        mark: Mark::Complete,
-    };
-    let part = part_text(alloc, b"r", &item, 3)?;
-    expect_bytes(&part, b"part r 7 version 1 upto 2 mark complete rows 3\n")
-}
 
 /// Statuses, their codes and their lines.
 static STATUSES: [(Status, u8, &str); 7] = [

@@ -1,7 +1,8 @@
 -- A delivery that is no repeat has all of its rows kept.
 use Rattle.std.proofs.Common.{◌+◌, ℕ, List, length, sym, ◌∙◌, ap}
 use Rattle.desc_types.specs.Deliveries.{DeliveryOf}
-use Rattle.depot_cli.specs.Texts.{feed_name, loaded_text}
+use Rattle.depot_script.specs.Texts.{loaded_text}
+use Rattle.depot_cli.specs.Answers.{feed_name}
 use Rattle.depot_cli.proofs.KeptLemmas.{IsKept-load}
 use Rattle.depot_cli.proofs.ReplyLemmas.{load_reply-new}
 use Rattle.depot_cli.proofs.reply.load.Goals as goal

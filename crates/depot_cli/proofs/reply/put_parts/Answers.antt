@@ -2,6 +2,7 @@
 use Rattle.std.proofs.Common.{◌++◌, ℕ, List, ◌∙◌, ap}
 use Rattle.view_meaning.specs.Shown.{shown_part}
 use Rattle.std.proofs.Math.Seq.{take-append_seam}
+use Rattle.depot_cli.specs.Answers.{shown_text}
 use Rattle.depot_cli.proofs.KnownLemmas.{OnErr-each}
 use Rattle.depot_cli.proofs.ReplyLemmas.{parts-push}
 use Rattle.depot_cli.proofs.reply.put_parts.Goals as goal
@@ -11,7 +12,7 @@ parts-preserved c =
     c.in_ok-extend_from_slice.ensures.items
     ∙ ap (λ (shown : List ℕ). c.parts.text.items ++ shown)
     (c.deref.ensures.value ∙ c.in_ok-shown.ensures.exact)
-    ∙ parts-push c.args.table.now.name
+    ∙ parts-push (shown_text c.args.served.now.desc)
     (λ part. shown_part c.args.served.now.desc c.args.journal.now.entries
     (record { table = c.args.number; part = part }))
     c.args.parts.first c.parts.part c.args.text.now.items c.parts.text.items

@@ -1,0 +1,91 @@
+-- What an item of a script asks for, by its line and its body.
+use Rattle.std.specs.Prelude.{ℕ, List, Option, Some, None, Bool, true, false, nat_lt, Result}
+use Rattle.std.specs.Prelude.{Ok, Err, codes, if◌then◌else◌}
+use Rattle.std.specs.List.{list_any}
+use Rattle.depot_script.specs.declared.fault.CommandFault.{CommandFault}
+use Rattle.depot_script.specs.CommandValues.{CommandOf, Nothing, Deliver, Drain, Query, Marks, Aside}
+use Rattle.depot_script.specs.CommandValues.{Reclaim, End}
+use Rattle.depot_script.specs.Faults.{fault_text}
+use Rattle.desc_types.specs.Deliveries.{DeliveryOf}
+use Rattle.desc_types.specs.Descriptions.{DescOf}
+use Rattle.feed_csv.specs.declared.fault.BadRecord.{BadRecord}
+use Rattle.feed_csv.specs.Bodies.{cause_text, delivery_of}
+use Rattle.query_pin.specs.declared.request.RequestFault.{RequestFault}
+use Rattle.query_pin.specs.Requests.{request_fault}
+use Rattle.query_pin.specs.Requests as request
+use Rattle.view_meaning.specs.declared.request.Item.{Item}
+use Rattle.view_meaning.specs.declared.request.Mark.{Mark}
+use Rattle.view_meaning.specs.declared.request.Mark.TheVariants.{Open, Closed, Complete}
+use Rattle.depot_cli.specs.declared.script.work.Refusal.{Refusal}
+use Rattle.depot_cli.specs.declared.script.work.Refusal.TheVariants as refusal
+use Rattle.depot_cli.specs.declared.script.work.Work.{Work}
+use Rattle.depot_cli.specs.declared.script.work.Work.TheVariants as work
+
+-- whether an item of a query has a level
+abbrev pub is_level : Mark → Bool
+is_level Open = false
+is_level Closed = true
+is_level Complete = true
+
+abbrev pub has_level : Item → Bool
+has_level item = is_level item.level
+
+-- whether a command is of a form that is not built yet: it closes, it has a level, or it asks for
+-- marks, for rows that were set aside, or to forget
+abbrev pub is_later : CommandOf → Bool
+is_later Nothing = false
+is_later (Deliver feed number closes size) = nat_lt 0 closes
+is_later Drain = false
+is_later (Query items) = list_any has_level items
+is_later (Marks items) = true
+is_later (Aside feed) = true
+is_later Reclaim = true
+is_later End = false
+
+-- whether a line ends the session
+abbrev pub is_end : Result CommandOf CommandFault → Bool
+is_end (Ok End) = true
+is_end _ = false
+
+-- what a body asks for: to load its delivery, or to be told of its first bad record
+abbrev pub loading : Result DeliveryOf BadRecord → Work
+loading (Ok delivery) = work.Load delivery
+loading (Err bad) = work.Refused (refusal.Record bad)
+
+-- what a query asks for: an answer, or to be told what is wrong with it
+abbrev pub asking : List Item → Option RequestFault → Work
+asking items None = work.Query items
+asking items (Some fault) = work.Refused (refusal.Request fault)
+
+-- what a command asks for, with the body after its line: only a delivery has one
+abbrev pub asked : DescOf → CommandOf → (body : List ℕ) → Work
+asked desc Nothing body = work.Nothing
+asked desc (Deliver feed number closes size) body =
+    loading (delivery_of desc feed number closes body)
+asked desc Drain body = work.Drain
+asked desc (Query items) body = asking items (request_fault desc items)
+asked desc (Marks items) body = work.Refused refusal.Later
+asked desc (Aside feed) body = work.Refused refusal.Later
+asked desc Reclaim body = work.Refused refusal.Later
+asked desc End body = work.Nothing
+
+-- what a line asks for, with the body after it: its faults go first, then forms that are not built
+-- yet, then the body and the request
+abbrev pub work_of : DescOf → Result CommandOf CommandFault → (body : List ℕ) → Work
+work_of desc (Err fault) body = work.Refused (refusal.Line fault)
+work_of desc (Ok command) body =
+    if is_later command then work.Refused refusal.Later else asked desc command body
+
+-- the word that names the cause of a refusal
+abbrev pub refusal_text : Refusal → List ℕ
+refusal_text (refusal.Line fault) = fault_text fault
+refusal_text refusal.Later = codes "later"
+refusal_text (refusal.Record bad) = cause_text bad.cause
+refusal_text (refusal.Request fault) = request.fault_text fault
+
+-- the record of the body that it speaks of, if it speaks of one
+abbrev pub refusal_record : Refusal → Option ℕ
+refusal_record (refusal.Line fault) = None
+refusal_record refusal.Later = None
+refusal_record (refusal.Record bad) = Some bad.number
+refusal_record (refusal.Request fault) = None
