@@ -8,6 +8,7 @@
 mod ends;
 mod items;
 mod runs;
+mod stored;
 mod texts;
 
 use crate::run::run;

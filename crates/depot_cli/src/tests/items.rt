@@ -52,7 +52,12 @@ impl Source for Slow {
 }
 
 /// Expects that a script is replied to so if its source gives one byte a take.
-fn expect_slowly(alloc: Global, script: &[u8], status: Status, output: &[u8]) -> Result<(), Fail> {
+pub fn expect_slowly(
+    alloc: Global,
+    script: &[u8],
+    status: Status,
+    output: &[u8],
+) -> Result<(), Fail> {
     let mut source = Slow {
         source: NeverSource::new(script.to_vec(alloc)?),
     };
@@ -60,11 +65,6 @@ fn expect_slowly(alloc: Global, script: &[u8], status: Status, output: &[u8]) ->
     let ended = run_words(alloc, TRIAL, &mut source, &mut sink)?;
     expect_bytes(sink.bytes(), output)?;
     expect_end(ended, status)
-}
-
-#[test]
-fn a_body_may_come_byte_by_byte(rt: HostRuntime) -> Result<(), Fail> {
-    expect_slowly(rt.alloc(), SCRIPT, Status::Done, REPLIES)
 }
 
 /// Two feeds, the second with a header, a raw table of each, and a view.
