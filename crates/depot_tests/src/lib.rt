@@ -7,23 +7,13 @@
 #[cfg(test)]
 mod bodies;
 #[cfg(test)]
-mod canonical;
-#[cfg(test)]
 mod cells;
-#[cfg(test)]
-mod commands;
-#[cfg(test)]
-mod descriptions;
-#[cfg(test)]
-mod lines;
 #[cfg(test)]
 mod meaning;
 #[cfg(test)]
 mod operations;
 #[cfg(test)]
 mod partitions;
-#[cfg(test)]
-mod requests;
 #[cfg(test)]
 mod streams;
 #[cfg(test)]
