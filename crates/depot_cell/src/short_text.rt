@@ -2,7 +2,7 @@
 //!
 //! A text is made once and never grows, so it keeps exactly the memory of its bytes.
 
-ghost use Rattle.std.specs.Prelude.{List, ℕ, ◌≡◌, nat_eq, IfOk};
+ghost use Rattle.std.specs.Prelude.{List, ℕ, [], ◌∷◌, ◌≡◌, nat_eq, IfOk};
 ghost use Rattle.std.specs.Cmp.Lexicographic.{pointwise, slice_cmp};
 ghost use Rattle.std.specs.Cmp.Rules.{comparing, hashing};
 ghost use Rattle.std.specs.Ordering.{as_partial_cmp, nat_cmp};
@@ -89,11 +89,13 @@ impl Ord for Str {
 }
 
 impl Hash for Str {
-    ghost hash_input = { fed.slice fed.u8 };
+    ghost hash_input = { λ text. text ∷ [] };
 
     ghost respects_eq = { Prim.search (hashing, rules) };
 
+    // In one write. A text inside a list is fed without its length: what follows it tells no more
+    // than that two lists may have one hash.
     fn hash<H: Hasher>(&self, state: &mut H) {
-        self.as_bytes().hash(state);
+        state.write(self.as_bytes());
     }
 }
