@@ -25,7 +25,7 @@ pub enum Op {
 }
 
 /// The value of one column in one row. An int stands before every text.
-#[derive(Debug, PartialEq, Eq, PartialOrd, Ord, Hash, Drop)]
+#[derive(Debug, PartialEq, Eq, Hash, Drop)]
 pub enum Cell {
     Int(i64),
     Text(Str),

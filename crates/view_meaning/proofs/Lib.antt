@@ -24,3 +24,4 @@ pub mod ContentLemmas
 pub mod GrowLemmas
 pub mod InstallValueLemmas
 pub mod ShownLemmas
+pub mod LatestLemmas

@@ -1,14 +1,17 @@
 -- What the rows of a version are, by the versions that it was made of.
 use Rattle.std.specs.Prelude.{ℕ, zero, suc, ◌≡◌, List, [], ◌∷◌, ◌++◌, Option, Some, None, true, map}
-use Rattle.std.specs.Prelude.{filter, flat_map, take, slice_get, if◌then◌else◌}
+use Rattle.std.specs.Prelude.{false, filter, flat_map, take, slice_get, if◌then◌else◌}
+use Rattle.std.specs.List.{list_all}
 use Rattle.depot_cell.specs.declared.cell.Cell.{Cell}
 use Rattle.desc_types.specs.declared.table.Key.{Key}
 use Rattle.desc_types.specs.declared.delivery.DRow.{DRow}
 use Rattle.desc_types.specs.Deliveries.{DeliveryOf}
 use Rattle.desc_types.specs.Descriptions.{DescOf}
+use Rattle.desc_types.specs.Sources.{HasEarlierSources}
 use Rattle.desc_types.specs.Tables.{TableOf}
 use Rattle.view_meaning.specs.declared.journal.Entry.{Entry}
 use Rattle.view_meaning.specs.Journal.{accepted}
+use Rattle.view_meaning.specs.Partitions.{sources_of}
 use Rattle.view_meaning.specs.SetAside.{kept_rows}
 use Rattle.view_meaning.specs.RawValues.{lies_in}
 use Rattle.view_meaning.specs.Versions.{touches, is_raw_kind, version, nth_place}
@@ -78,3 +81,17 @@ abbrev pub HasSettledValues : Type 0
 HasSettledValues = (desc : DescOf) (journal : List Entry) (key : Key)
     → is_settled desc journal key ≡ true
     → content desc journal key (version desc journal key) ≡ value desc (accepted journal) key
+
+-- the content of the latest version of a partition
+abbrev pub latest_content : DescOf → List Entry → Key → List (List Cell)
+latest_content desc journal key = content desc journal key (version desc journal key)
+
+-- if the sources of a view's partition are settled, what it makes of their latest versions is its
+-- value from scratch over all accepted deliveries
+abbrev pub HasValuesOfLatest : Type 0
+HasValuesOfLatest = (desc : DescOf) (journal : List Entry) (key : Key) (table : TableOf)
+    → HasEarlierSources desc
+    → slice_get desc.tables key.table ≡ Some table → is_raw_kind table.kind ≡ false
+    → list_all (is_settled desc journal) (sources_of desc key) ≡ true
+    → made_of table.kind (joined desc (latest_content desc journal) table.width key.part)
+    ≡ value desc (accepted journal) key

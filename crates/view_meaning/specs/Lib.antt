@@ -5,6 +5,7 @@ pub mod RawValues
 pub mod Growth
 pub mod TableRows
 pub mod Operations
+pub mod Parts
 pub mod Versions
 pub mod Values
 pub mod Staleness

@@ -11,14 +11,14 @@ use depot_cell::{Cell, Memory, Row, Rows, copy_cell, copy_row};
 use std::alloc::Global;
 
 /// The cell of a column, if the row has one.
-pub(crate) fn cell_at(row: &Row, column: u16) -> Option<&Cell>
+pub fn cell_at(row: &Row, column: u16) -> Option<&Cell>
     ensures exact { option_copied result ≡ slice_get row.now column }
 {
     row.cells().get(usize::from(column))
 }
 
 /// A row cut to these columns, in their order. A column that the row does not have is left out.
-pub(crate) fn cut_row(alloc: Global, columns: &[u16], row: &Row) -> Result<Row, Memory>
+pub fn cut_row(alloc: Global, columns: &[u16], row: &Row) -> Result<Row, Memory>
     ensures exact { IfOk result (λ cut. cut ≡ cut_to columns.now row.now) }
 {
     let mut cut = Row::with_capacity(alloc, columns.len())?;
@@ -54,7 +54,7 @@ pub(crate) fn same_cells(left: &Row, right: &Row) -> bool
 }
 
 /// Puts copies of cells at the end. After an `Err` there may be some of them.
-pub(crate) fn push_copies(alloc: Global, cells: &[Cell], row: &mut Row) -> Result<(), Memory>
+pub fn push_copies(alloc: Global, cells: &[Cell], row: &mut Row) -> Result<(), Memory>
     ensures ok { OnOk result (row.new ≡ row.old ++ cells.now) }
     ensures err { OnErr result (BeginsWith row.old row.new) }
 {

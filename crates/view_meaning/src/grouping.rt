@@ -92,7 +92,7 @@ fn push_aggregate(alloc: Global, agg: Agg, group: &Rows, row: &mut Row) -> Resul
 }
 
 /// Puts the int of 64 bits that is nearest to a number at the end.
-fn push_clamped(number: i128, row: &mut Row) -> Result<(), Memory>
+pub fn push_clamped(number: i128, row: &mut Row) -> Result<(), Memory>
     ensures ok { OnOk result (row.new ≡ row.old ++ clamped number ∷ []) }
     ensures err { OnErr result (row.new ≡ row.old) }
 {
@@ -102,7 +102,7 @@ fn push_clamped(number: i128, row: &mut Row) -> Result<(), Memory>
 }
 
 /// Puts a copy of a cell at the end, if there is one.
-fn push_best(alloc: Global, best: Option<&Cell>, row: &mut Row) -> Result<(), Memory>
+pub fn push_best(alloc: Global, best: Option<&Cell>, row: &mut Row) -> Result<(), Memory>
     ensures ok { OnOk result (row.new ≡ row.old ++ option_to_list (option_copied best.entry)) }
     ensures err { OnErr result (row.new ≡ row.old) }
 {
@@ -124,7 +124,7 @@ fn total(column: u16, rows: &Rows) -> i128
 }
 
 /// The number of a row in a column. A text counts 0, and so does a cell that is not there.
-fn number_at(row: &Row, column: u16) -> i64
+pub fn number_at(row: &Row, column: u16) -> i64
     ensures exact { result ≡ number_in (slice_get row.now column) }
 {
     match cell_at(row, column) {
@@ -146,7 +146,7 @@ fn best_by(op: Op, column: u16, rows: &Rows) -> Option<&Cell>
 }
 
 /// Of the best cell so far and one more that which is not beaten.
-fn better<'a>(op: Op, best: Option<&'a Cell>, cell: Option<&'a Cell>) -> Option<&'a Cell>
+pub fn better<'a>(op: Op, best: Option<&'a Cell>, cell: Option<&'a Cell>) -> Option<&'a Cell>
     ensures exact { option_copied result ≡ best_by op
         (option_to_list (option_copied best.entry) ++ option_to_list (option_copied cell.entry)) }
 {

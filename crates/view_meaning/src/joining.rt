@@ -37,14 +37,14 @@ fn partners(alloc: Global, on: &[Pair], row: &Row, right: &Rows) -> Result<Rows,
 }
 
 /// The columns of the left side.
-fn left_columns(alloc: Global, on: &[Pair]) -> Result<Vec<u16>, Memory>
+pub fn left_columns(alloc: Global, on: &[Pair]) -> Result<Vec<u16>, Memory>
     ensures exact { IfOk result (λ columns. columns.items ≡ left_columns on.now) }
 {
     Ok(on.iter().map(|pair| pair.left).collect(alloc)?)
 }
 
 /// The columns of the right side.
-fn right_columns(alloc: Global, on: &[Pair]) -> Result<Vec<u16>, Memory>
+pub fn right_columns(alloc: Global, on: &[Pair]) -> Result<Vec<u16>, Memory>
     ensures exact { IfOk result (λ columns. columns.items ≡ right_columns on.now) }
 {
     Ok(on.iter().map(|pair| pair.right).collect(alloc)?)
@@ -62,7 +62,7 @@ fn push_beside(alloc: Global, row: &Row, others: &Rows, rows: &mut Rows) -> Resu
 }
 
 /// The cells of a row, then those of another.
-fn both(alloc: Global, row: &Row, other: &Row) -> Result<Row, Memory>
+pub fn both(alloc: Global, row: &Row, other: &Row) -> Result<Row, Memory>
     ensures exact { IfOk result (λ both. both ≡ row.now ++ other.now) }
 {
     let mut both = Row::with_capacity(alloc, row.cells().len() + other.cells().len())?;

@@ -1,7 +1,7 @@
 //! Laws of the definitions: facts of every journal. Each is the contract of a function that does
 //! nothing, so that it is proved, and can be cited.
 
-ghost use Rattle.view_meaning.specs.Contents.{HasSettledValues};
+ghost use Rattle.view_meaning.specs.Contents.{HasSettledValues, HasValuesOfLatest};
 ghost use Rattle.view_meaning.specs.Drains.{HasFittingDrains, HasLegalDrains, HasSettlingDrains};
 ghost use Rattle.view_meaning.specs.Installs.{HasInstallValues};
 ghost use Rattle.view_meaning.specs.Reached.{HasReachedUnsettled};
@@ -11,6 +11,12 @@ ghost use Rattle.view_meaning.specs.Shown.{HasShownContents};
 /// scratch over all accepted deliveries.
 pub fn settled_is_value()
     ensures law { HasSettledValues }
+{}
+
+/// A law: if the sources of a view's partition are settled, what it makes of their latest versions
+/// is its value from scratch over all accepted deliveries.
+pub fn latest_make_values()
+    ensures law { HasValuesOfLatest }
 {}
 
 /// A law: in a legal journal the version that an install made holds the value from scratch over the

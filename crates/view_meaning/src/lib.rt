@@ -17,10 +17,14 @@ mod plain;
 mod reached;
 mod request;
 
+pub use columns::{cell_at, cut_row, push_copies};
+pub use filtering::push_filtered;
+pub use grouping::{better, number_at, push_best, push_clamped};
+pub use joining::{both, left_columns, right_columns};
 pub use journal::{Entry, Loaded};
 pub use laws::{
-    drains_are_legal, drains_fit, drains_settle, installs_are_values, reached_are_unsettled,
-    settled_is_value, shown_is_content,
+    drains_are_legal, drains_fit, drains_settle, installs_are_values, latest_make_values,
+    reached_are_unsettled, settled_is_value, shown_is_content,
 };
 pub use plain::{plain_value, plain_version};
 pub use reached::reached_keys;
