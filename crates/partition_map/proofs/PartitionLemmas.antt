@@ -85,7 +85,7 @@ start_of-next width part =
     add-mul part 1 width ∙ ap (λ (one : ℕ). part * width + one) (one-mul width)
 
 -- a partition that covers a tick has the number that division gives
-is_covered-quotient : (width part tick : ℕ) → is_covered width part tick ≡ true
+pub is_covered-quotient : (width part tick : ℕ) → is_covered width part tick ≡ true
     → part ≡ tick / width
 is_covered-quotient width part tick covers =
     let begin = start_of width part in

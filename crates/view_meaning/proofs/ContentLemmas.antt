@@ -6,7 +6,7 @@ use Rattle.std.specs.Prelude.{true, false, not, Option, Some, None, All, flat_ma
 use Rattle.std.specs.Prelude.{if◌then◌else◌}
 use Rattle.std.specs.List.{list_all}
 use Rattle.std.specs.Cmp.Lexicographic.{same_text}
-use Rattle.std.proofs.lemmas.Bool.{cases_Bool, and_parts, not-true, not-false}
+use Rattle.std.proofs.lemmas.Bool.{cases_Bool, and_parts, both_ways, not-true, not-false}
 use Rattle.std.proofs.lemmas.List.{take_all}
 use Rattle.std.proofs.lemmas.List.Elements.{All-head, All-tail, All-weaker}
 use Rattle.std.proofs.lemmas.List.Sums.{AllPass-from_list_all}
@@ -32,7 +32,7 @@ use Rattle.view_meaning.specs.Values.{joined, rows_at, made_of, value_over, valu
 use Rattle.view_meaning.specs.Staleness.{is_stale, is_settled_within}
 use Rattle.view_meaning.specs.Contents.{rows_kept, loads_kept, raw_content, install_content}
 use Rattle.view_meaning.specs.Contents.{view_content, content_over, content_within}
-use Rattle.view_meaning.specs.Contents.{HasSettledValues}
+use Rattle.view_meaning.specs.Contents.{HasSettledValues, latest_content}
 use Rattle.view_meaning.proofs.ListLemmas.{flat_map-agree, All-map_agree, flat_map-none}
 use Rattle.view_meaning.proofs.ListLemmas.{All-from_flat_map, flat_map-cons_if, length-cons_if}
 use Rattle.view_meaning.proofs.ListLemmas.{filter-empty}
@@ -245,6 +245,28 @@ content_within-version (suc depth) desc journal key settled =
     let source = get_or (sources_of desc key) index default in
     ap (content_within depth desc journal source) (seen index default within)
     ∙ content_within-version depth desc journal source (below index default within))
+
+-- the content of a version of a raw table's partition is that of the kept rows
+content_over-raw : (desc : DescOf) (rows : Key → ℕ → List (List Cell)) (journal : List Entry)
+    (key : Key) (number : ℕ) (found : Option TableOf) → is_raw found ≡ true
+    → content_over desc rows journal key number found
+    ≡ raw_content desc (accepted journal) key number
+content_over-raw desc rows journal key number None raw = absurd (both_ways false refl raw)
+content_over-raw desc rows journal key number (Some table) raw = rw raw refl
+
+-- the latest version of a raw table's partition holds all that deliveries kept in it
+pub latest_content-raw : (desc : DescOf) (journal : List Entry) (key : Key)
+    → is_raw (slice_get desc.tables key.table) ≡ true
+    → latest_content desc journal key
+    ≡ flat_map (λ rows. rows) (loads_kept desc key [] (accepted journal))
+latest_content-raw desc journal key raw =
+    content_over-raw desc (content_within key.table desc journal) journal key
+    (version desc journal key) (slice_get desc.tables key.table) raw
+    ∙ ap (raw_content desc (accepted journal) key) (version-raw desc journal key raw)
+    ∙ ap (flat_map (λ rows. rows))
+    (take_all (raw_version desc (accepted journal) key)
+    (loads_kept desc key [] (accepted journal))
+    (omega (arith, length-loads_kept desc key [] (accepted journal))))
 
 -- if a partition is settled, its latest version holds its value
 pub settled_values : HasSettledValues

@@ -228,7 +228,7 @@ module _ (desc : DescOf) (journal : List Entry) (earlier : HasEarlierSources des
       (is_settled-unless_stale done later next split fresh))
 
   -- and it may be installed
-  MayInstall-next : (done later : List Key) (next : Key)
+  pub MayInstall-next : (done later : List Key) (next : Key)
       → unsettled desc journal ≡ done ++ next ∷ later
       → MayInstall desc (with_installs journal done) next (length (with_installs journal done))
   MayInstall-next done later next split =

@@ -27,7 +27,7 @@ use Rattle.view_meaning.proofs.LegalLemmas.{AreWithin, IsLegal-take, install_pla
 use Rattle.view_meaning.proofs.ContentLemmas.{length-loads_kept, made_of-joined}
 
 -- the rows of the deliveries of two lists are those of the first, then those of the second
-loads_kept-append : (desc : DescOf) (key : Key) (before accepted more : List DeliveryOf)
+pub loads_kept-append : (desc : DescOf) (key : Key) (before accepted more : List DeliveryOf)
     → loads_kept desc key before (accepted ++ more)
     ≡ loads_kept desc key before accepted ++ loads_kept desc key (before ++ accepted) more
 loads_kept-append desc key before [] more =

@@ -21,7 +21,7 @@ use Rattle.view_meaning.proofs.ContentLemmas.{made_of-joined, settled_values}
 use Rattle.view_meaning.proofs.SourceLemmas.{sources_of-earlier, within-enough}
 
 -- the value is the same over source partitions with the same rows
-value_over-agree : (desc : DescOf) (accepted : List DeliveryOf)
+pub value_over-agree : (desc : DescOf) (accepted : List DeliveryOf)
     (rows other : Key → List (List Cell)) (key : Key) (found : Option TableOf)
     → All (λ source. rows source ≡ other source) (keys_below desc key.part found)
     → value_over desc accepted rows key found ≡ value_over desc accepted other key found
@@ -58,21 +58,14 @@ latest_content-source desc journal key source earlier settled before =
     (omega arith) before
 
 pub values_of_latest : HasValuesOfLatest
-values_of_latest desc journal key table earlier found view settled =
-    let same : All (λ source. latest_content desc journal source
-    ≡ value_within key.table desc (accepted journal) source) (keys_below desc key.part (Some table))
-    = rw found at all_same in
-    rw (found, view)
-    (made_of-joined desc (latest_content desc journal)
-    (value_within key.table desc (accepted journal)) table key.part same)
+values_of_latest desc journal key earlier settled =
+    value_over-agree desc (accepted journal) (latest_content desc journal)
+    (value_within key.table desc (accepted journal)) key (slice_get desc.tables key.table)
+    (λ index default within.
+    latest_content-source desc journal key (get_or (sources_of desc key) index default) earlier
+    (settled_sources index default within)
+    (sources_of-earlier desc key earlier index default within))
   where
     settled_sources : All (λ source. is_settled desc journal source ≡ true) (sources_of desc key)
     settled_sources =
         AllPass-from_list_all (is_settled desc journal) (sources_of desc key) settled
-
-    all_same : All (λ source. latest_content desc journal source
-        ≡ value_within key.table desc (accepted journal) source) (sources_of desc key)
-    all_same = λ index default within.
-        latest_content-source desc journal key (get_or (sources_of desc key) index default) earlier
-        (settled_sources index default within)
-        (sources_of-earlier desc key earlier index default within)

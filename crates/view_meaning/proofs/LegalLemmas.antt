@@ -94,7 +94,7 @@ pub IsLegal-take : (desc : DescOf) (count : ℕ) (journal : List Entry) → IsLe
 IsLegal-take desc count journal = MayAllFollow-take desc count [] journal
 
 -- what is stale is no partition of a raw table
-is_raw-stale : (desc : DescOf) (journal : List Entry) (key : Key)
+pub is_raw-stale : (desc : DescOf) (journal : List Entry) (key : Key)
     → is_stale desc journal key ≡ true → is_raw (slice_get desc.tables key.table) ≡ false
 is_raw-stale desc journal key stale =
     false_from_ne_true (is_raw (slice_get desc.tables key.table)) (λ raw.

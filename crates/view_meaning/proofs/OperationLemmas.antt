@@ -21,27 +21,33 @@ take-push rows index cells below read =
     take_more rows index cells below
     ∙ ap (λ (next : List Cell). take index rows ++ next ∷ []) (sym read)
 
+-- one row more adds its number to a sum
+pub total-push : (column : ℕ) (rows : List (List Cell)) (cells : List Cell)
+    → total column (rows ++ cells ∷ [])
+    ≡ total column rows +ℤ number_in (slice_get cells column)
+total-push column rows cells =
+    let number = λ (cells : List Cell). number_in (slice_get cells column) in
+    ap (λ (numbers : List ℤ). fold ◌+ℤ◌ (pos 0) numbers) (map-append number rows (cells ∷ []))
+    ∙ fold-append ◌+ℤ◌ (pos 0) (map number rows) (number cells ∷ [])
+
 -- one row more adds its number
 pub total-take : (column : ℕ) (rows : List (List Cell)) (index : ℕ) (cells : List Cell)
     → index < length rows → cells ≡ get_or rows index cells
     → total column (take (index + 1) rows)
     ≡ total column (take index rows) +ℤ number_in (slice_get cells column)
 total-take column rows index cells below read =
-    let number = λ (cells : List Cell). number_in (slice_get cells column) in
     ap (λ (all : List (List Cell)). total column all) (take-push rows index cells below read)
-    ∙ ap (λ (numbers : List ℤ). fold ◌+ℤ◌ (pos 0) numbers)
-    (map-append number (take index rows) (cells ∷ []))
-    ∙ fold-append ◌+ℤ◌ (pos 0) (map number (take index rows)) (number cells ∷ [])
+    ∙ total-push column (take index rows) cells
 
 -- one int of 64 bits more makes a sum larger by 2^63 at most
 pub sum-within : (sum number : ℤ) (index : ℕ) → unsigned_abs sum ≤ index * 2 ^ 63
     → FitsSigned w64 number → unsigned_abs (sum +ℤ number) ≤ (index + 1) * 2 ^ 63
 sum-within sum number index within fits = grind (arith, ints)
 
--- a sum of fewer than 2^44 ints of 64 bits is an int of 128 bits
-pub sum-fits : (sum number : ℤ) (index many : ℕ) → unsigned_abs sum ≤ index * 2 ^ 63
-    → FitsSigned w64 number → index < many → many < 2 ^ 44 → FitsSigned w128 (sum +ℤ number)
-sum-fits sum number index many within fits below few =
+-- a sum of fewer than 2^63 ints of 64 bits is an int of 128 bits
+pub sum-fits : (sum number : ℤ) (index : ℕ) → unsigned_abs sum ≤ index * 2 ^ 63
+    → FitsSigned w64 number → index < 2 ^ 63 → FitsSigned w128 (sum +ℤ number)
+sum-fits sum number index within fits few =
     fits_signed_from_abs w128 (sum +ℤ number)
     (omega (arith, sum-within sum number index within fits))
 
@@ -52,20 +58,28 @@ best_by-append op [] more = refl
 best_by-append op (cell ∷ cells) more = ap Some (fold-append _ cell cells more)
 
 -- one row more has the best cell, or leaves the best so far
-pub best_by-take : (op : Op) (column : ℕ) (rows : List (List Cell)) (index : ℕ)
-    (cells : List Cell) → index < length rows → cells ≡ get_or rows index cells
-    → best_by op (column_of column (take (index + 1) rows))
-    ≡ best_by op (option_to_list (best_by op (column_of column (take index rows)))
+pub best_by-push : (op : Op) (column : ℕ) (rows : List (List Cell)) (cells : List Cell)
+    → best_by op (column_of column (rows ++ cells ∷ []))
+    ≡ best_by op (option_to_list (best_by op (column_of column rows))
     ++ option_to_list (slice_get cells column))
-best_by-take op column rows index cells below read =
-    let before = column_of column (take index rows) in
-    ap (λ (all : List (List Cell)). best_by op (column_of column all))
-    (take-push rows index cells below read)
-    ∙ ap (λ (cells : List Cell). best_by op cells)
-    (filter_map-append (λ cells. slice_get cells column) (take index rows) (cells ∷ [])
+best_by-push op column rows cells =
+    let before = column_of column rows in
+    ap (λ (cells : List Cell). best_by op cells)
+    (filter_map-append (λ cells. slice_get cells column) rows (cells ∷ [])
     ∙ ap (λ (last : List Cell). before ++ last) (one (slice_get cells column)))
     ∙ best_by-append op before (option_to_list (slice_get cells column))
   where
     one : (found : Option Cell) → cons_option found [] ≡ option_to_list found
     one None = refl
     one (Some cell) = refl
+
+-- so has the next row of a list
+pub best_by-take : (op : Op) (column : ℕ) (rows : List (List Cell)) (index : ℕ)
+    (cells : List Cell) → index < length rows → cells ≡ get_or rows index cells
+    → best_by op (column_of column (take (index + 1) rows))
+    ≡ best_by op (option_to_list (best_by op (column_of column (take index rows)))
+    ++ option_to_list (slice_get cells column))
+best_by-take op column rows index cells below read =
+    ap (λ (all : List (List Cell)). best_by op (column_of column all))
+    (take-push rows index cells below read)
+    ∙ best_by-push op column (take index rows) cells

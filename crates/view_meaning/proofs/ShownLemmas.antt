@@ -58,7 +58,7 @@ content-last desc journal key first later earlier legal some =
 
 -- after a legal journal the latest version of a view's partition holds its value over the
 -- deliveries that its last install counted
-content-view : (desc : DescOf) (journal : List Entry) (key : Key) → HasEarlierSources desc
+pub content-view : (desc : DescOf) (journal : List Entry) (key : Key) → HasEarlierSources desc
     → IsLegal desc journal → is_raw (slice_get desc.tables key.table) ≡ false
     → content desc journal key (version desc journal key)
     ≡ value desc (accepted (take (last_place journal key) journal)) key

@@ -1,6 +1,6 @@
 -- What the rows of a version are, by the versions that it was made of.
 use Rattle.std.specs.Prelude.{ℕ, zero, suc, ◌≡◌, List, [], ◌∷◌, ◌++◌, Option, Some, None, true, map}
-use Rattle.std.specs.Prelude.{false, filter, flat_map, take, slice_get, if◌then◌else◌}
+use Rattle.std.specs.Prelude.{filter, flat_map, take, slice_get, if◌then◌else◌}
 use Rattle.std.specs.List.{list_all}
 use Rattle.depot_cell.specs.declared.cell.Cell.{Cell}
 use Rattle.desc_types.specs.declared.table.Key.{Key}
@@ -16,7 +16,7 @@ use Rattle.view_meaning.specs.SetAside.{kept_rows}
 use Rattle.view_meaning.specs.RawValues.{lies_in}
 use Rattle.view_meaning.specs.Versions.{touches, is_raw_kind, version, nth_place}
 use Rattle.view_meaning.specs.Staleness.{is_settled}
-use Rattle.view_meaning.specs.Values.{joined, made_of, value}
+use Rattle.view_meaning.specs.Values.{joined, made_of, value, value_over}
 
 -- the rows of the partition that a delivery keeps, if these were accepted before it
 abbrev pub rows_kept : DescOf → Key → List DeliveryOf → DeliveryOf → List (List Cell)
@@ -86,12 +86,11 @@ HasSettledValues = (desc : DescOf) (journal : List Entry) (key : Key)
 abbrev pub latest_content : DescOf → List Entry → Key → List (List Cell)
 latest_content desc journal key = content desc journal key (version desc journal key)
 
--- if the sources of a view's partition are settled, what it makes of their latest versions is its
+-- if the sources of a partition are settled, what it comes to over their latest versions is its
 -- value from scratch over all accepted deliveries
 abbrev pub HasValuesOfLatest : Type 0
-HasValuesOfLatest = (desc : DescOf) (journal : List Entry) (key : Key) (table : TableOf)
-    → HasEarlierSources desc
-    → slice_get desc.tables key.table ≡ Some table → is_raw_kind table.kind ≡ false
+HasValuesOfLatest = (desc : DescOf) (journal : List Entry) (key : Key) → HasEarlierSources desc
     → list_all (is_settled desc journal) (sources_of desc key) ≡ true
-    → made_of table.kind (joined desc (latest_content desc journal) table.width key.part)
+    → value_over desc (accepted journal) (latest_content desc journal) key
+    (slice_get desc.tables key.table)
     ≡ value desc (accepted journal) key

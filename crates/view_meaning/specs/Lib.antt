@@ -6,6 +6,7 @@ pub mod Growth
 pub mod TableRows
 pub mod Operations
 pub mod Parts
+pub mod LentRows
 pub mod Versions
 pub mod Values
 pub mod Staleness

@@ -76,7 +76,7 @@ fn push_cell(alloc: Global, row: &Row, column: u16, cut: &mut Row) -> Result<(),
 }
 
 /// Puts a copy of a cell at the end.
-pub(crate) fn push_copy(alloc: Global, cell: &Cell, row: &mut Row) -> Result<(), Memory>
+pub fn push_copy(alloc: Global, cell: &Cell, row: &mut Row) -> Result<(), Memory>
     ensures ok { OnOk result (row.new ≡ row.old ++ cell.now ∷ []) }
     ensures err { OnErr result (row.new ≡ row.old) }
 {

@@ -1,6 +1,6 @@
 //! What a filter makes of the rows of its source.
 
-ghost use Rattle.std.specs.Prelude.{◌≡◌, ◌++◌, OnErr, OnOk};
+ghost use Rattle.std.specs.Prelude.{◌≡◌, ◌∷◌, ◌++◌, [], OnErr, OnOk};
 ghost use Rattle.std.specs.List.{list_all};
 ghost use Rattle.view_meaning.specs.Growth.{BeginsWith};
 ghost use Rattle.view_meaning.specs.Operations.{filtered, meets};
@@ -23,9 +23,26 @@ pub fn push_filtered(
     ensures err { OnErr result (BeginsWith rows.old rows.new) }
 {
     for row in source.rows() {
-        if meets_all(conds, row) {
-            rows.push(cut_row(alloc, keep, row)?)?;
-        }
+        push_if_met(alloc, conds, keep, row, rows)?;
+    }
+    Ok(())
+}
+
+/// Puts a row that meets all conditions at the end, cut to the kept columns, and no other. After
+/// an `Err` the rows are as before.
+pub fn push_if_met(
+    alloc: Global,
+    conds: &[Cond],
+    keep: &[u16],
+    row: &Row,
+    rows: &mut Rows,
+) -> Result<(), Memory>
+    ensures ok { OnOk result (rows.new
+        ≡ rows.old ++ filtered conds.now keep.now (row.now ∷ [])) }
+    ensures err { OnErr result (rows.new ≡ rows.old) }
+{
+    if meets_all(conds, row) {
+        rows.push(cut_row(alloc, keep, row)?)?;
     }
     Ok(())
 }

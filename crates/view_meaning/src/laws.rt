@@ -13,8 +13,8 @@ pub fn settled_is_value()
     ensures law { HasSettledValues }
 {}
 
-/// A law: if the sources of a view's partition are settled, what it makes of their latest versions
-/// is its value from scratch over all accepted deliveries.
+/// A law: if the sources of a partition are settled, what it comes to over their latest versions is
+/// its value from scratch over all accepted deliveries.
 pub fn latest_make_values()
     ensures law { HasValuesOfLatest }
 {}

@@ -12,13 +12,15 @@ mod grouping;
 mod joining;
 mod journal;
 mod laws;
+mod lent;
+mod part;
 mod parts;
 mod plain;
 mod reached;
 mod request;
 
-pub use columns::{cell_at, cut_row, push_copies};
-pub use filtering::push_filtered;
+pub use columns::{cell_at, cut_row, push_copies, push_copy};
+pub use filtering::{push_filtered, push_if_met};
 pub use grouping::{better, number_at, push_best, push_clamped};
 pub use joining::{both, left_columns, right_columns};
 pub use journal::{Entry, Loaded};
@@ -26,6 +28,8 @@ pub use laws::{
     drains_are_legal, drains_fit, drains_settle, installs_are_values, latest_make_values,
     reached_are_unsettled, settled_is_value, shown_is_content,
 };
-pub use plain::{plain_value, plain_version};
-pub use reached::reached_keys;
+pub use lent::Lent;
+pub use part::Part;
+pub use plain::{plain_value, plain_version, row_tick, source_parts};
+pub use reached::{part_of_row, reached_keys};
 pub use request::{Item, Mark, PinItem, compare_marks};

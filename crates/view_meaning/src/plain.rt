@@ -148,7 +148,7 @@ fn push_raw(
 }
 
 /// The partitions of a source that a view's partition reads. A source that is no table has none.
-fn source_parts(desc: &Desc, width: Width, part: u64, src: Src) -> Parts
+pub fn source_parts(desc: &Desc, width: Width, part: u64, src: Src) -> Parts
     ensures exact { source_parts width (table_width desc.now src.table) src.span part
         ≡ range_with_len result.first result.count }
     ensures within { result.first + result.count ≤ END }
@@ -209,7 +209,7 @@ fn lies_in_table(table: &Table, key: Key, row: &DRow) -> bool
 }
 
 /// The tick of a row of a raw table. A row of a view has none.
-pub(crate) fn row_tick(kind: &Kind, row: &Row) -> Option<u64>
+pub fn row_tick(kind: &Kind, row: &Row) -> Option<u64>
     ensures exact { result ≡ row_tick (kind_of kind.now) row.now }
 {
     match kind {

@@ -142,7 +142,7 @@ fn push_part(lists: &mut Vec<Vec<u64>>, table: usize, part: u64) -> Result<(), M
 }
 
 /// The number of the partition that a row lies in, if there is one.
-fn part_of_row(desc: &Desc, row: &DRow) -> Option<u64>
+pub fn part_of_row(desc: &Desc, row: &DRow) -> Option<u64>
     ensures exact { (part : ℕ) → has (option_to_list result) part
         ≡ lies_in desc.now (key_of row.now.table part) row.now }
     ensures within { IsSome result → row.now.table < length desc.now.tables }

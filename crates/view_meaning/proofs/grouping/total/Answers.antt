@@ -1,4 +1,4 @@
-use Rattle.std.proofs.Common.{rules, ◌≡◌, ◌≤◌, ◌∙◌, ◌+ℤ◌, ◌*◌, ◌^◌, refl}
+use Rattle.std.proofs.Common.{rules, arith, ℕ, ◌≡◌, ◌<◌, ◌≤◌, ◌∙◌, ◌+ℤ◌, ◌*◌, ◌^◌, refl}
 use Rattle.std.specs.Prelude.{FitsSigned, unsigned_abs}
 use Rattle.std.specs.Int.{w64, w128}
 use Rattle.std.proofs.lemmas.Int.{to_z-of_z}
@@ -13,11 +13,16 @@ added c = c.from-sum.ensures ∙ to_z-of_z w64 c.number_at.result (search rules)
 within : (c : goal.After-from-sum) → unsigned_abs c.loop-row.sum ≤ c.loop-row.row-index * 2 ^ 63
 within c = rw c.loop-row.sum-is at c.loop-row.invariant.within
 
+-- fewer than all are few
+few : (index many : ℕ) → index < many → many < 2 ^ 44 → index < 2 ^ 63
+few index many below least = omega arith
+
 -- the sum with the next row is an int of 128 bits
 fits : (c : goal.After-from-sum) → FitsSigned w128 (c.loop-row.sum +ℤ c.number_at.result)
 fits c =
-    sum-fits c.loop-row.sum c.number_at.result c.loop-row.row-index _ (within c) (search rules)
-    c.loop-row-test.true (rw c.rows-row-items.ensures.exact c.rows-row-items.ensures.within)
+    sum-fits c.loop-row.sum c.number_at.result c.loop-row.row-index (within c) (search rules)
+    (few c.loop-row.row-index _ c.loop-row-test.true
+    (rw c.rows-row-items.ensures.exact c.rows-row-items.ensures.within))
 
 pub overflow_add-sum : goal.overflow_add-sum
 overflow_add-sum c =
