@@ -130,7 +130,10 @@ fn cells_are_ordered(rt: HostRuntime) -> Result<(), Fail> {
     let row = ordered_cells(rt.alloc())?;
     for (i, lower) in row.cells().iter().enumerate() {
         for (j, upper) in row.cells().iter().enumerate() {
-            assert!(rt; order_of(lower, upper) == (i < j, i == j, i > j), "at {i} and {j}");
+            assert!(rt;
+                order_of(lower, upper) == (i < j, i == j, i > j),
+                "at {i} and {j}"
+            );
         }
     }
     Ok(())
