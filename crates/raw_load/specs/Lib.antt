@@ -1,0 +1,4 @@
+pub mod Stretches
+pub mod Pieces
+pub mod Books
+pub mod Loads
