@@ -21,7 +21,7 @@ use Rattle.depot_cli.specs.ScriptCalls.{IsLeftOf, IsReplied, IsReplyRoom, IsStep
 use Rattle.depot_cli.specs.SerialJournal.{serial}
 use Rattle.depot_cli.specs.Replies.{replies, reply}
 use Rattle.depot_cli.specs.Runs.{GainsFront, GainsTaken, IsRun, first_replies, reply_at}
-use Rattle.depot_cli.proofs.KnownLemmas.{IfSome-known}
+use Rattle.run_journal.proofs.KnownLemmas.{IfSome-known}
 use Rattle.depot_cli.proofs.DueLemmas.{All-undone, All-untaken}
 use Rattle.depot_cli.proofs.SessionLemmas.{Appends-reply, HasServed, after_items, session_next}
 

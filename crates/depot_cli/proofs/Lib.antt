@@ -2,9 +2,6 @@ pub mod AcceptedLemmas
 pub mod CompleteLemmas
 pub mod DueLemmas
 pub mod EndLemmas
-pub mod KnownLemmas
-pub mod JournalViewLemmas
-pub mod KeptLemmas
 pub mod LineLemmas
 pub mod OpeningLemmas
 pub mod ReplyLemmas

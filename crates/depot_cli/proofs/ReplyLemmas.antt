@@ -1,5 +1,5 @@
 -- What the definitions of the replies come to while nothing closes.
-use Rattle.std.proofs.Common.{◌≡◌, ℕ, ◌+◌, List, [], ◌∷◌, ◌++◌, length, false, refl, sym, ap, ◌∙◌}
+use Rattle.std.proofs.Common.{◌≡◌, ℕ, ◌+◌, List, [], ◌∷◌, ◌++◌, length, false, true, refl, sym, ap, ◌∙◌}
 use Rattle.std.proofs.Common.{arith, map, append-nil, append_assoc, length-append, ◌≤◌, ◌-◌}
 use Rattle.std.specs.Prelude.{Option, Some, None, slice_get, fold, take, flat_map}
 use Rattle.std.specs.List.{range_with_len}
@@ -16,13 +16,19 @@ use Rattle.view_meaning.specs.declared.request.Item.{Item}
 use Rattle.desc_types.specs.Sources.{table_width}
 use Rattle.partition_map.specs.Partitions.{parts_met}
 use Rattle.view_meaning.specs.Journal.{accepted, is_repeat}
-use Rattle.view_meaning.specs.Shown.{ShownPart, shown, shown_part}
+use Rattle.view_meaning.specs.Shown.{ShownPart, shown, shown_part, upto}
 use Rattle.view_meaning.specs.Values.{value}
-use Rattle.view_meaning.specs.Versions.{install_places, is_raw}
+use Rattle.view_meaning.specs.Versions.{install_places, is_raw, is_raw_kind, version}
+use Rattle.view_meaning.specs.Contents.{loads_kept}
+use Rattle.desc_types.specs.Sources.{HasEarlierSources}
 use Rattle.view_meaning.specs.declared.request.Mark.TheVariants as mark
-use Rattle.view_meaning.proofs.ContentLemmas.{value-empty}
-use Rattle.depot_cli.specs.declared.book.version.Version.{Version}
-use Rattle.depot_cli.specs.KeptJournals.{latest, version_made}
+use Rattle.view_meaning.proofs.ContentLemmas.{length-loads_kept, value-empty}
+use Rattle.view_meaning.proofs.RawLemmas.{version-raw}
+use Rattle.view_meaning.proofs.ShownLemmas.{shown_contents}
+use Rattle.raw_load.specs.Books.{kept_in, rows_of}
+use Rattle.run_journal.proofs.KeptRowsLemmas.{kept_rows-latest}
+use Rattle.run_journal.specs.KeptJournals.{IsKept, JournalOf, latest, version_made}
+use Rattle.run_journal.specs.KeptVersions.{VersionOf}
 use Rattle.view_meaning.proofs.SetAsideLemmas.{kept_rows-all, aside_rows-none}
 use Rattle.depot_cli.specs.Replies.{load_reply}
 use Rattle.depot_script.specs.Texts.{answer_text, loaded_text, part_text, rows_text}
@@ -42,7 +48,7 @@ load_reply-new desc journal delivery is_new =
     ) refl
 
 -- what is shown of a view's partition with this latest version
-abbrev pub shown_version : Key → Option Version → ShownPart
+abbrev pub shown_version : Key → Option VersionOf → ShownPart
 shown_version key None = record {
   item = record { key = key; version = 0; upto = 0; mark = mark.Open };
   rows = [];
@@ -85,6 +91,49 @@ pub shown_part-view : (desc : DescOf) (journal : List Entry) (key : Key)
 shown_part-view desc journal key view =
     rw view (sym (shown_version-made desc journal key (install_places journal key)))
 
+-- a raw partition has as many versions as deliveries kept a row in it
+version-kept : (desc : DescOf) (journal : JournalOf) (key : Key)
+    → IsKept desc journal → is_raw (slice_get desc.tables key.table) ≡ true
+    → version desc journal.entries key ≡ length (kept_in journal.raw key)
+version-kept desc journal key kept raw =
+    version-raw desc journal.entries key raw
+    ∙ sym (length-loads_kept desc key [] (accepted journal.entries))
+    ∙ ap (λ (all : List DeliveryOf). length (loads_kept desc key [] all)) (sym kept.tells.loads)
+    ∙ ap length (sym (kept.tells.raw key raw))
+
+-- a raw partition is shown with the rows that are kept of it
+pub shown_part-raw : (desc : DescOf) (journal : JournalOf) (key : Key) → HasEarlierSources desc
+    → IsKept desc journal → is_raw (slice_get desc.tables key.table) ≡ true
+    → shown_part desc journal.entries key
+    ≡ record {
+      item = record {
+        key = key;
+        version = length (kept_in journal.raw key);
+        upto = length journal.entries;
+        mark = mark.Open;
+      };
+      rows = rows_of (kept_in journal.raw key);
+    }
+shown_part-raw desc journal key earlier kept raw =
+    ap (λ (rows : List (List Cell)). record {
+      item = (shown_part desc journal.entries key).item;
+      rows = rows;
+    })
+    (shown_contents desc journal.entries key earlier kept.tells.legal
+    ∙ sym (kept_rows-latest desc journal key earlier kept.tells)
+    ∙ rw raw refl)
+    ∙ ap (λ (number : ℕ). record {
+      item = record {
+        key = key;
+        version = number;
+        upto = upto desc journal.entries key;
+        mark = mark.Open;
+      };
+      rows = rows_of (kept_in journal.raw key);
+    })
+    (version-kept desc journal key kept raw)
+    ∙ rw raw refl
+
 -- the text of a partition begins with the name of its table
 pub shown_text-there : (desc : DescOf) (table : TableOf) (shown : ShownPart)
     → slice_get desc.tables shown.item.key.table ≡ Some table
@@ -93,6 +142,32 @@ pub shown_text-there : (desc : DescOf) (table : TableOf) (shown : ShownPart)
 shown_text-there desc table shown there =
     ap (λ (found : Option TableOf). part_text (name_of found) shown.item (length shown.rows)
     ++ rows_text shown.rows) there
+
+-- the text of a raw partition
+pub shown_text-raw : (desc : DescOf) (table : TableOf) (journal : JournalOf) (key : Key)
+    (number place : ℕ) (rows : List (List Cell))
+    → HasEarlierSources desc → IsKept desc journal
+    → slice_get desc.tables key.table ≡ Some table → is_raw_kind table.kind ≡ true
+    → number ≡ length (kept_in journal.raw key) → place ≡ length journal.entries
+    → rows ≡ rows_of (kept_in journal.raw key)
+    → part_text table.name
+    (record { key = key; version = number; upto = place; mark = mark.Open }) (length rows)
+    ++ rows_text rows
+    ≡ shown_text desc (shown_part desc journal.entries key)
+shown_text-raw desc table journal key number place rows earlier kept there raw is_number is_place
+    is_rows =
+    let shown = shown_part-raw desc journal key earlier kept (ap is_raw there ∙ raw) in
+    rw (is_number, is_place, is_rows)
+    (sym (ap (shown_text desc) shown
+    ∙ shown_text-there desc table (record {
+      item = record {
+        key = key;
+        version = length (kept_in journal.raw key);
+        upto = length journal.entries;
+        mark = mark.Open;
+      };
+      rows = rows_of (kept_in journal.raw key);
+    }) there))
 
 -- as many partitions are shown as items ask for
 pub length-shown : (desc : DescOf) (journal : List Entry) (items : List Item)

@@ -17,7 +17,7 @@ use Rattle.depot_cli.specs.Reading.{session_from, step_of}
 use Rattle.depot_cli.specs.ScriptCalls.{IsStep}
 use Rattle.depot_cli.specs.SerialJournal.{journal_after, serial}
 use Rattle.depot_cli.specs.Replies.{has_refused, is_refused, replies, reply}
-use Rattle.depot_cli.proofs.KnownLemmas.{IfSome-known}
+use Rattle.run_journal.proofs.KnownLemmas.{IfSome-known}
 use Rattle.depot_cli.proofs.LineLemmas.{step_of-leaves}
 use Rattle.depot_cli.proofs.ReplyListLemmas.{replies-push}
 use Rattle.depot_cli.proofs.RoomLemmas.{length-replies_front, room_after-step}

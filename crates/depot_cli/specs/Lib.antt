@@ -2,8 +2,6 @@ pub mod Items
 pub mod Reading
 pub mod ScriptCalls
 pub mod SerialJournal
-pub mod KeptJournals
-pub mod JournalView
 pub mod Answers
 pub mod Replies
 pub mod Runs

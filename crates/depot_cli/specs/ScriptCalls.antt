@@ -13,7 +13,7 @@ use Rattle.depot_cli.specs.declared.script.work.Work.TheVariants as work
 use Rattle.query_pin.specs.Requests.{request_fault}
 use Rattle.desc_types.specs.Descriptions.{DescOf}
 use Rattle.depot_cli.specs.SerialJournal.{journal_after}
-use Rattle.depot_cli.specs.KeptJournals.{IsCutShort, JournalOf}
+use Rattle.run_journal.specs.KeptJournals.{DrainsSome, JournalOf}
 use Rattle.table_desc.specs.Drafts.{DraftOf, drafted}
 use Rattle.depot_cli.specs.Reading.{NextLine, NoLine, Unreadable, Line, NextBody, Unfinished, Body}
 use Rattle.depot_cli.specs.Reading.{Opening, OpeningEnd, Go, Broken, Step, Ends, Does, Ended}
@@ -154,6 +154,12 @@ abbrev pub IsOpened : Opening → (left : Option (List ℕ))
     → Result (DraftOf × ℕ) ScriptFault → Type 0
 IsOpened opening left (Ok (draft, taken)) = IsOpening opening taken left (Ok draft)
 IsOpened opening left (Err fault) = IsOpening opening 0 left (Err fault)
+
+-- what a command for which there was no memory left of the journal: a drain may have made some of
+-- its installs, and each other one changed nothing
+abbrev pub IsCutShort : DescOf → (before now : JournalOf) → Work → Type 0
+IsCutShort desc before now work.Drain = DrainsSome desc before.entries now.entries
+IsCutShort desc before now _ = now ≡ before
 
 -- what an item that was not replied to left of the journal: it was done, if the sink failed
 abbrev pub IsItemCut : DescOf → (before now : JournalOf) → Work → Status → Type 0

@@ -4,7 +4,6 @@
 //! `docs/FORMATS.md`, the rules in `docs/RULES.md`.
 #![tactic(auto)]
 
-mod book;
 mod reply;
 mod run;
 mod script;

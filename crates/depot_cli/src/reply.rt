@@ -10,8 +10,8 @@ ghost use Rattle.view_meaning.specs.Drains.{drained};
 ghost use Rattle.std.specs.List.{range_with_len};
 ghost use Rattle.desc_types.specs.Kinds.{kind_of};
 ghost use Rattle.depot_cli.specs.declared.script.work.Work.TheVariants as work;
-ghost use Rattle.depot_cli.specs.ScriptCalls.{IsAnswerable};
-ghost use Rattle.depot_cli.specs.KeptJournals.{DrainsSome, IsCutShort, IsKept};
+ghost use Rattle.depot_cli.specs.ScriptCalls.{IsAnswerable, IsCutShort};
+ghost use Rattle.run_journal.specs.KeptJournals.{DrainsSome, IsKept};
 ghost use Rattle.depot_cli.specs.SerialJournal.{journal_after};
 ghost use Rattle.depot_script.specs.Texts.{drained_text, part_text, refused_text, rows_text};
 ghost use Rattle.desc_types.specs.Sources.{table_width};
@@ -21,8 +21,6 @@ ghost use Rattle.depot_cli.specs.Answers.{AreFine, IsFine, feed_name, shown_text
 ghost use Rattle.depot_cli.specs.Items.{refusal_record, refusal_text};
 ghost use Rattle.depot_cli.specs.Replies.{load_reply, reply};
 
-use crate::book::drain::drain;
-use crate::book::journal::Journal;
 use crate::script::work::{Refusal, Work};
 use depot_cell::{Memory, Rows};
 use depot_script::{
@@ -30,8 +28,9 @@ use depot_script::{
 };
 use desc_types::{AcceptedDesc, Delivery, Key, Kind, Table};
 use partition_map::{Parts, parts_of_span};
+use run_journal::{Journal, drain};
 use std::alloc::Global;
-use view_meaning::{Item, Loaded, Mark, PinItem, plain_value, plain_version};
+use view_meaning::{Item, Loaded, Mark, PinItem};
 
 /// Does what an item asks for, and makes the text of the reply. `line` is the item's line, from 1.
 /// Without memory a drain may have made some of its installs, and nothing else has changed.
@@ -86,7 +85,7 @@ fn load(
         aside: 0,
     };
     let text = loaded_text(alloc, feed, delivery.number, &loaded)?;
-    journal.load(delivery)?;
+    journal.load(served, delivery)?;
     Ok(text)
 }
 
@@ -262,15 +261,16 @@ fn raw_text(
     table: &Table,
     key: Key,
 ) -> Result<Vec<u8>, Memory>
+    requires kept { IsKept served.now.desc journal.now }
     requires there { slice_get served.now.desc.tables key.table ≡ Some table.now }
     requires raw { is_raw_kind table.now.kind ≡ true }
     ensures exact { IfOk result (λ text. text.items
         ≡ shown_text served.now.desc (shown_part served.now.desc journal.now.entries key)) }
 {
-    let rows = plain_value(alloc, &served.desc, journal.accepted(), key)?;
+    let rows = journal.raw_rows(alloc, key)?;
     let item = PinItem {
         key,
-        version: plain_version(&served.desc, journal.accepted(), key),
+        version: journal.raw_version(key),
         upto: journal.len(),
         mark: Mark::Open,
     };
@@ -295,11 +295,11 @@ fn view_text(
         Some(version) => {
             let item = PinItem {
                 key,
-                version: version.number,
-                upto: version.at,
+                version: version.number(),
+                upto: version.at(),
                 mark: Mark::Open,
             };
-            part_and_rows(alloc, table, &item, &version.rows)
+            part_and_rows(alloc, table, &item, version.rows())
         }
         None => {
             let item = PinItem {

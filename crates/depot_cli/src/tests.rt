@@ -8,8 +8,9 @@
 mod ends;
 mod items;
 mod runs;
-mod stored;
+mod slow;
 mod texts;
+mod views;
 
 use crate::run::run;
 use crate::run::status::Status;

@@ -6,11 +6,10 @@ ghost use Rattle.depot_cli.specs.Reading.{Serving, session};
 ghost use Rattle.depot_cli.specs.ScriptCalls.{IsAnswerable, IsItemCut, IsReplied, IsReplyCause};
 ghost use Rattle.depot_cli.specs.ScriptCalls.{IsReplyRoom, status_of_fault};
 ghost use Rattle.depot_cli.specs.SerialJournal.{journal_after};
-ghost use Rattle.depot_cli.specs.KeptJournals.{IsKept};
+ghost use Rattle.run_journal.specs.KeptJournals.{IsKept};
 ghost use Rattle.depot_cli.specs.Replies.{is_refused, reply};
 ghost use Rattle.depot_cli.specs.Runs.{EndsSession, HasRunCauses, IsRun};
 
-use crate::book::journal::Journal;
 use crate::reply::answer;
 use crate::run::status::Status;
 use crate::script::work::Work;
@@ -18,6 +17,7 @@ use crate::script::{ScriptFault, next_work};
 use depot_cell::Memory;
 use depot_io::{LineReader, Sink, Source, put_all};
 use desc_types::AcceptedDesc;
+use run_journal::Journal;
 use std::alloc::Global;
 use std::mem;
 

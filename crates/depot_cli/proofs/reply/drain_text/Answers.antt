@@ -1,6 +1,6 @@
 -- A drain that was done made all of its installs.
-use Rattle.depot_cli.proofs.KeptLemmas.{DrainsSome-drained}
-use Rattle.depot_cli.proofs.KnownLemmas.{OnErr-each}
+use Rattle.run_journal.proofs.KeptLemmas.{DrainsSome-drained}
+use Rattle.run_journal.proofs.KnownLemmas.{OnErr-each}
 use Rattle.depot_cli.proofs.reply.drain_text.Goals as goal
 
 pub returns-clause-err : goal.returns-clause-err

@@ -3,7 +3,7 @@ use Rattle.std.proofs.Common.{◌+◌, ℕ, List, length, sym, ◌∙◌, ap}
 use Rattle.desc_types.specs.Deliveries.{DeliveryOf}
 use Rattle.depot_script.specs.Texts.{loaded_text}
 use Rattle.depot_cli.specs.Answers.{feed_name}
-use Rattle.depot_cli.proofs.KeptLemmas.{IsKept-load}
+use Rattle.run_journal.proofs.KeptLemmas.{IsKept-load}
 use Rattle.depot_cli.proofs.ReplyLemmas.{load_reply-new}
 use Rattle.depot_cli.proofs.reply.load.Goals as goal
 
@@ -39,4 +39,4 @@ returns-clause-kept c =
     c.requires.kept
     (sym c.has.ensures.exact ∙ c.if-has.false) c.in_ok-load.ensures.entries
     c.in_ok-load.ensures.fresh
-    c.in_ok-load.ensures.versions
+    c.in_ok-load.ensures.versions c.in_ok-load.ensures.raw c.in_ok-load.ensures.tells

@@ -3,7 +3,7 @@ use Rattle.std.proofs.Common.{◌++◌, ℕ, List, ◌∙◌, ap}
 use Rattle.view_meaning.specs.Shown.{shown_part}
 use Rattle.std.proofs.Math.Seq.{take-append_seam}
 use Rattle.depot_cli.specs.Answers.{shown_text}
-use Rattle.depot_cli.proofs.KnownLemmas.{OnErr-each}
+use Rattle.run_journal.proofs.KnownLemmas.{OnErr-each}
 use Rattle.depot_cli.proofs.ReplyLemmas.{parts-push}
 use Rattle.depot_cli.proofs.reply.put_parts.Goals as goal
 

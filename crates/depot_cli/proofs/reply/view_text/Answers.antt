@@ -13,7 +13,7 @@ returns-in-None c =
     ≡ shown_version c.args.key None =
     shown_part-view desc c.args.journal.now.entries c.args.key
     (rw c.requires.there c.requires.view)
-    ∙ ap (shown_version c.args.key) (sym (c.requires.kept.latest c.args.key)
+    ∙ ap (shown_version c.args.key) (sym (c.requires.kept.tells.latest c.args.key)
     ∙ sym c.latest.ensures.exact ∙ ap option_copied c.in-None.is) in
     record {
       exact = subst (λ (wanted : List ℕ). IfOk c.part_and_rows-in-None-2.result

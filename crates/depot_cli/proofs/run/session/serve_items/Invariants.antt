@@ -3,7 +3,7 @@
 use Rattle.std.proofs.Common.{◌≡◌, ◌+◌, ◌-◌, ◌≤◌, IfSome}
 use Rattle.depot_io.specs.Lines.{LIMIT}
 use Rattle.depot_cli.specs.Reading.{session}
-use Rattle.depot_cli.specs.KeptJournals.{IsKept}
+use Rattle.run_journal.specs.KeptJournals.{IsKept}
 use Rattle.depot_cli.proofs.SessionLemmas.{HasServed}
 use Rattle.depot_cli.proofs.run.session.serve_items.Given as goal
 

@@ -1,0 +1,5 @@
+pub mod KnownLemmas
+pub mod JournalViewLemmas
+pub mod KeptLemmas
+pub mod KeptRowsLemmas
+pub mod DrainingLemmas

@@ -1,0 +1,3 @@
+pub mod KeptVersions
+pub mod JournalView
+pub mod KeptJournals
