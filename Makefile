@@ -28,7 +28,12 @@ program: needs-rt
 ci: needs-rt
 	.ci/run
 
-# What loading costs, against the bars of docs/PERFORMANCE.md. It wants Python 3 and valgrind, and
-# the proved program. (How drains grow, which has no bar, is told by bench/draining.py.)
+# What loading and views cost, against the bars of docs/PERFORMANCE.md. It wants Python 3 and
+# valgrind, and the proved program. The second script runs even if the first misses a bar.
 bench: needs-rt
-	python3 bench/loading.py
+	@missed=0; \
+	for script in loading views; do \
+	    echo "bench/$$script.py"; \
+	    python3 bench/$$script.py || missed=1; \
+	done; \
+	exit $$missed
