@@ -31,7 +31,7 @@ deliveries_of book = map (λ (load : LoadOf). load.delivery) book.loads
 abbrev pub kept_in : RawBookOf → Key → List (List (List Cell))
 kept_in book key = unwrap_or (lookup (is_at (key_cmp key)) book.kept) []
 
--- the rows of some deliveries, delivery by delivery
+-- the rows of some deliveries, or of some parts, one after the other
 abbrev pub rows_of : List (List (List Cell)) → List (List Cell)
 rows_of deliveries = flat_map (λ rows. rows) deliveries
 

@@ -18,7 +18,7 @@ pub fn cell_at(row: &Row, column: u16) -> Option<&Cell>
 }
 
 /// A row cut to these columns, in their order. A column that the row does not have is left out.
-pub fn cut_row(alloc: Global, columns: &[u16], row: &Row) -> Result<Row, Memory>
+pub(crate) fn cut_row(alloc: Global, columns: &[u16], row: &Row) -> Result<Row, Memory>
     ensures exact { IfOk result (λ cut. cut ≡ cut_to columns.now row.now) }
 {
     let mut cut = Row::with_capacity(alloc, columns.len())?;
@@ -54,7 +54,7 @@ pub(crate) fn same_cells(left: &Row, right: &Row) -> bool
 }
 
 /// Puts copies of cells at the end. After an `Err` there may be some of them.
-pub fn push_copies(alloc: Global, cells: &[Cell], row: &mut Row) -> Result<(), Memory>
+pub(crate) fn push_copies(alloc: Global, cells: &[Cell], row: &mut Row) -> Result<(), Memory>
     ensures ok { OnOk result (row.new ≡ row.old ++ cells.now) }
     ensures err { OnErr result (BeginsWith row.old row.new) }
 {

@@ -12,7 +12,7 @@ use std::alloc::Global;
 
 /// Puts the rows of a source that meet all conditions at the end, cut to the kept columns. After
 /// an `Err` there may be some of them.
-pub fn push_filtered(
+pub(crate) fn push_filtered(
     alloc: Global,
     conds: &[Cond],
     keep: &[u16],

@@ -19,8 +19,8 @@ mod plain;
 mod reached;
 mod request;
 
-pub use columns::{cell_at, cut_row, push_copies, push_copy};
-pub use filtering::{push_filtered, push_if_met};
+pub use columns::{cell_at, push_copy};
+pub use filtering::push_if_met;
 pub use grouping::{better, number_at, push_best, push_clamped};
 pub use joining::{both, left_columns, right_columns};
 pub use journal::{Entry, Loaded};
