@@ -9,9 +9,11 @@ use crate::texts::rows_text;
 use depot_cell::{Cell, Memory, Op, Row, Str};
 use desc_types::{Cond, DRow, Delivery, Desc, END, Key, Kind, Span, Src, Table, Width};
 use partition_map::{Parts, parts_of_span};
+use stale_test::reached_keys;
 use std::alloc::Global;
+use std::slice;
 use std::test::Fail;
-use view_meaning::{plain_value, plain_version, reached_keys};
+use view_meaning::{part_of_row, plain_value, plain_version};
 
 /// The span of just a partition's own ticks.
 const OWN_TICKS: Span = Span { lo: 0, hi: 0 };
@@ -127,25 +129,35 @@ fn row(alloc: Global, table: u16, day: i64, amount: i64) -> Result<DRow, Memory>
     })
 }
 
-/// A delivery of rows, each of a table, a day and an amount.
-fn delivery(alloc: Global, rows: &[(u16, i64, i64)]) -> Result<Delivery, Memory> {
+/// A delivery of the feed of all raw tables, with its number, the tick that it closes up to, and
+/// rows, each of a table, a day and an amount.
+fn delivery(
+    alloc: Global,
+    number: u32,
+    closes: u64,
+    rows: &[(u16, i64, i64)],
+) -> Result<Delivery, Memory> {
     let mut delivered = Vec::new(alloc);
     for &(table, day, amount) in rows {
         delivered.push(row(alloc, table, day, amount)?)?;
     }
     Ok(Delivery {
         feed: 0,
-        number: 0,
-        closes: 0,
+        number,
+        closes,
         rows: delivered,
     })
 }
 
-/// Two deliveries.
+/// Three deliveries. The second closes the first table's partition of days 0 to 9 after its own
+/// row there, so that of the third the row of day 9 is late.
 fn accepted(alloc: Global) -> Result<Vec<Delivery>, Memory> {
     let mut deliveries = Vec::new(alloc);
-    deliveries.push(delivery(alloc, &[(0, 9, 7), (0, 12, 8), (1, 4, 1), (0, 5, 4)])?)?;
-    deliveries.push(delivery(alloc, &[(0, 10, 5), (0, -1, 9), (0, 1_099_511_627_776, 9)])?)?;
+    let rows = &[(0, 9, 7), (0, 12, 8), (1, 4, 1), (0, 5, 4)];
+    deliveries.push(delivery(alloc, 1, 0, rows)?)?;
+    let rows = &[(0, 10, 5), (0, -1, 9), (0, 1_099_511_627_776, 9), (0, 3, 6)];
+    deliveries.push(delivery(alloc, 2, 10, rows)?)?;
+    deliveries.push(delivery(alloc, 3, 0, &[(0, 9, 9), (0, 11, 6)])?)?;
     Ok(deliveries)
 }
 
@@ -156,14 +168,14 @@ fn values_follow_the_accepted_rows(rt: HostRuntime) -> Result<(), Fail> {
     let accepted = accepted(alloc)?;
     // The group has no keys and no aggregates, so its one row is empty.
     for &(table, part, want) in &[
-        (0, 0, "9|7| 5|4| "),
-        (0, 1, "12|8| 10|5| "),
+        (0, 0, "9|7| 5|4| 3|6| "),
+        (0, 1, "12|8| 10|5| 11|6| "),
         (0, 109_951_162_777, ""),
         (1, 0, "4|1| "),
-        (2, 0, "7|9| 8|12| 5|10| "),
+        (2, 0, "7|9| 6|3| 8|12| 5|10| 6|11| "),
         (2, u64::MAX, ""),
         (3, 0, " "),
-        (4, 0, "7|9|4|1| 8|12|4|1| 5|10|4|1| "),
+        (4, 0, "7|9|4|1| 6|3|4|1| 8|12|4|1| 5|10|4|1| 6|11|4|1| "),
         (5, 0, ""),
     ] {
         let value = plain_value(alloc, &desc, &accepted, Key { table, part })?;
@@ -179,8 +191,8 @@ fn versions_follow_the_accepted_rows(rt: HostRuntime) -> Result<(), Fail> {
     let desc = views(alloc)?;
     let accepted = accepted(alloc)?;
     for &(table, part, version) in &[
-        (0, 0, 1),
-        (0, 1, 2),
+        (0, 0, 2),
+        (0, 1, 3),
         (0, 109_951_162_777, 0),
         (1, 0, 1),
         (2, 0, 0),
@@ -198,20 +210,37 @@ fn versions_follow_the_accepted_rows(rt: HostRuntime) -> Result<(), Fail> {
     Ok(())
 }
 
-/// Whether a delivery of rows reaches just these keys of views.
+/// The partitions of views that rest on the one that a row lies in, and none if it lies in none.
+fn reached_by(alloc: Global, desc: &Desc, row: &DRow) -> Result<Vec<Key>, Memory>
+    requires few { length desc.now.tables ≤ 65_536 }
+    requires earlier { HasEarlierSources desc.now }
+    requires fits { HasFittingSources desc.now }
+{
+    match part_of_row(desc, row) {
+        Some(part) => {
+            let key = Key {
+                table: row.table,
+                part,
+            };
+            reached_keys(alloc, desc, slice::from_ref(&key))
+        }
+        None => Ok(Vec::new(alloc)),
+    }
+}
+
+/// Whether a row of a table, of a day, reaches just these keys of views.
 fn are_reached(
     alloc: Global,
     desc: &Desc,
-    rows: &[(u16, i64, i64)],
+    table: u16,
+    day: i64,
     want: &[(u16, u64)],
 ) -> Result<bool, Memory>
     requires few { length desc.now.tables ≤ 65_536 }
     requires earlier { HasEarlierSources desc.now }
     requires fits { HasFittingSources desc.now }
 {
-    let mut deliveries = Vec::new(alloc);
-    deliveries.push(delivery(alloc, rows)?)?;
-    let keys = reached_keys(alloc, desc, &deliveries)?;
+    let keys = reached_by(alloc, desc, &row(alloc, table, day, 0)?)?;
     let mut same = keys.len() == want.len();
     for (key, &(table, part)) in keys.iter().zip(want) {
         same = same && *key == Key { table, part };
@@ -220,37 +249,40 @@ fn are_reached(
 }
 
 #[test]
-fn deliveries_reach_what_stands_above_their_rows(rt: HostRuntime) -> Result<(), Fail> {
+fn rows_reach_what_stands_above_their_partition(rt: HostRuntime) -> Result<(), Fail> {
     let alloc = rt.alloc();
     // END is 54,975,581,388 times 20, and 16, and 18,325,193,796 times 60, and 16.
     let last: u64 = 54_975_581_388;
     let desc = views(alloc)?;
-    assert!(rt; are_reached(alloc, &desc, &[(0, 121, 0)], &[(2, 6), (3, 6), (4, 2)])?);
+    assert!(rt; are_reached(alloc, &desc, 0, 121, &[(2, 6), (3, 6), (4, 2)])?);
+    assert!(rt; are_reached(alloc, &desc, 0, 1_000, &[(2, 50), (3, 50), (4, 16)])?);
+    assert!(rt; are_reached(alloc, &desc, 0, 1_009, &[(2, 50), (3, 50), (4, 16)])?);
+    assert!(rt; are_reached(alloc, &desc, 0, 39, &[(2, 1), (3, 1), (4, 0)])?);
+    assert!(rt; are_reached(alloc, &desc, 0, 20, &[(2, 1), (3, 1), (4, 0)])?);
+    assert!(rt; are_reached(alloc, &desc, 1, 60, &[(4, 1)])?);
     assert!(rt;
         are_reached(
             alloc,
             &desc,
-            &[(0, 1_000, 0), (0, 39, 0), (0, 20, 0), (0, 1_009, 0)],
-            &[(2, 1), (2, 50), (3, 1), (3, 50), (4, 0), (4, 16)]
-        )?
-    );
-    assert!(rt; are_reached(alloc, &desc, &[(1, 60, 0)], &[(4, 1)])?);
-    assert!(rt;
-        are_reached(
-            alloc,
-            &desc,
-            &[(0, 1_099_511_627_775, 0)],
+            0,
+            1_099_511_627_775,
             &[(2, last), (3, last), (4, 18_325_193_796)]
         )?
     );
-    assert!(rt;
-        are_reached(
-            alloc,
-            &desc,
-            &[(0, -1, 0), (0, 1_099_511_627_776, 0), (2, 5, 0), (9, 5, 0)],
-            &[]
-        )?
-    );
+    Ok(())
+}
+
+#[test]
+fn rows_of_no_partition_reach_nothing(rt: HostRuntime) -> Result<(), Fail> {
+    let alloc = rt.alloc();
+    let desc = views(alloc)?;
+    // before time, after its end, of a view, and of no table
+    for &(table, day) in &[(0, -1), (0, 1_099_511_627_776), (2, 5), (9, 5)] {
+        assert!(rt;
+            are_reached(alloc, &desc, table, day, &[])?,
+            "of {table} {day}"
+        );
+    }
     Ok(())
 }
 
@@ -261,9 +293,9 @@ fn views_reach_ticks_around_their_own(rt: HostRuntime) -> Result<(), Fail> {
     // last ticks too, but it is that of no partition.
     let last: u64 = 54_975_581_388;
     let desc = windows(alloc)?;
-    assert!(rt; are_reached(alloc, &desc, &[(0, 5, 0)], &[(1, 0), (1, 1)])?);
-    assert!(rt; are_reached(alloc, &desc, &[(0, 121, 0)], &[(1, 5), (1, 6), (1, 7)])?);
-    assert!(rt; are_reached(alloc, &desc, &[(0, 1_099_511_627_775, 0)], &[(1, last)])?);
+    assert!(rt; are_reached(alloc, &desc, 0, 5, &[(1, 0), (1, 1)])?);
+    assert!(rt; are_reached(alloc, &desc, 0, 121, &[(1, 5), (1, 6), (1, 7)])?);
+    assert!(rt; are_reached(alloc, &desc, 0, 1_099_511_627_775, &[(1, last)])?);
     Ok(())
 }
 
@@ -272,7 +304,8 @@ fn views_read_ticks_around_their_own(rt: HostRuntime) -> Result<(), Fail> {
     let alloc = rt.alloc();
     let desc = windows(alloc)?;
     let mut accepted = Vec::new(alloc);
-    accepted.push(delivery(alloc, &[(0, 100, 5), (0, 149, 6), (0, 99, 7), (0, 150, 8)])?)?;
+    let rows = &[(0, 100, 5), (0, 149, 6), (0, 99, 7), (0, 150, 8)];
+    accepted.push(delivery(alloc, 1, 0, rows)?)?;
     let value = plain_value(alloc, &desc, &accepted, Key { table: 1, part: 6 })?;
     let text = rows_text(alloc, value.rows())?;
     assert!(rt; text.as_slice() == b"5|100| 6|149| ".as_slice());

@@ -1,19 +1,11 @@
 -- Which keys are among a list, and which stand before others.
 use Rattle.std.proofs.Common.{◌≡◌, ◌<◌, ◌≤◌, List, ◌∷◌, get_or, ◌∙◌, refl, subst, inl, inr, arith}
-use Rattle.std.specs.Prelude.{Bool, true, false, ◌&&◌, ◌==◌, ◌⊎◌, All}
-use Rattle.std.specs.List.{list_any}
+use Rattle.std.specs.Prelude.{true, false, ◌==◌, ◌⊎◌, All}
 use Rattle.std.proofs.lemmas.Bool.{and_parts, and_from, eqb-true, eq-eqb, false_from_ne_true}
 use Rattle.std.proofs.lemmas.List.Elements.{All-cons}
 use Rattle.std.proofs.lemmas.List.Folds.{list_any_none, Any-from_list_any}
 use Rattle.desc_types.specs.declared.table.Key.{Key}
-
--- whether two keys are the same
-abbrev pub is_key : Key → Key → Bool
-is_key key other = (other.table == key.table) && (other.part == key.part)
-
--- whether a key is one of the list
-abbrev pub is_among : List Key → Key → Bool
-is_among keys key = list_any (is_key key) keys
+use Rattle.view_meaning.specs.Partitions.{is_among, is_key}
 
 -- the key stands before the other: it is of an earlier table, or an earlier partition of the same
 abbrev pub IsBefore : Key → Key → Type 0

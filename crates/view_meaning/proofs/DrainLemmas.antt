@@ -23,7 +23,8 @@ use Rattle.view_meaning.specs.Staleness.{is_stale, is_settled}
 use Rattle.view_meaning.specs.LegalJournals.{MayInstall, IsLegal}
 use Rattle.view_meaning.specs.Drains.{all_view_keys, unsettled, with_install, drained}
 use Rattle.view_meaning.proofs.ListLemmas.{AllPairs-front, AllPairs-after, AllPairs-before}
-use Rattle.view_meaning.proofs.AmongLemmas.{is_key, is_among, IsBefore, is_key-itself, is_key-same}
+use Rattle.view_meaning.specs.Partitions.{is_among, is_key}
+use Rattle.view_meaning.proofs.AmongLemmas.{IsBefore, is_key-itself, is_key-same}
 use Rattle.view_meaning.proofs.AmongLemmas.{is_among-after, is_among-before, is_among-earlier}
 use Rattle.view_meaning.proofs.AmongLemmas.{All-is_among, IsBefore-table, IsBefore-le}
 use Rattle.view_meaning.proofs.KeyLemmas.{sources_of-parts, sources_of-none, AllPairs-all_view_keys}

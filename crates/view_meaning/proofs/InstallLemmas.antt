@@ -17,7 +17,8 @@ use Rattle.view_meaning.specs.Versions.{recorded}
 use Rattle.view_meaning.specs.Staleness.{is_stale}
 use Rattle.view_meaning.specs.Drains.{with_install}
 use Rattle.view_meaning.proofs.ListLemmas.{map-agree, All-map_agree, AllPairs-head, AllPairs-tail}
-use Rattle.view_meaning.proofs.AmongLemmas.{is_key, is_among, IsBefore, is_key-same, is_among-after}
+use Rattle.view_meaning.specs.Partitions.{is_among, is_key}
+use Rattle.view_meaning.proofs.AmongLemmas.{IsBefore, is_key-same, is_among-after}
 use Rattle.view_meaning.proofs.AmongLemmas.{is_among-earlier}
 use Rattle.view_meaning.proofs.VersionLemmas.{install_places-append, version-view, version-le}
 use Rattle.view_meaning.proofs.VersionLemmas.{version-take-le, version-same, last_place-Install}

@@ -32,7 +32,9 @@ use Rattle.partition_map.proofs.ListLemmas.{All-range_with_len}
 use Rattle.view_meaning.proofs.ListLemmas.{All-flat_map}
 use Rattle.view_meaning.proofs.ListLemmas.{list_any-range_with_len, AllPairs-append, AllPairs-map}
 use Rattle.view_meaning.proofs.ListLemmas.{AllPairs-range_with_len}
-use Rattle.view_meaning.proofs.AmongLemmas.{is_key, is_among, IsBefore}
+use Rattle.view_meaning.specs.Partitions.{is_among, is_key}
+use Rattle.view_meaning.proofs.AmongLemmas.{IsBefore}
+use Rattle.view_meaning.proofs.PartitionLemmas.{is_met-no_width}
 
 -- what shares a tick with a span of time shares one with time
 is_met-wider : (width from to part : ℕ) → is_met width from to part ≡ true → to ≤ END
@@ -41,6 +43,17 @@ is_met-wider width from to part met in_time =
     let shared : max (start_of width part) from < min (end_of width part) to =
     ltb-true (max (start_of width part) from) (min (end_of width part) to) met in
     lt-ltb (max (start_of width part) 0) (min (end_of width part) END) (omega arith)
+
+-- a partition is of a table that is there
+pub is_part-table : (desc : DescOf) (key : Key) → is_part desc key ≡ true
+    → key.table < length desc.tables
+is_part-table desc key = at_table (slice_get desc.tables key.table) refl
+  where
+    at_table : (found : Option TableOf) → slice_get desc.tables key.table ≡ found
+        → is_met (width_of found) 0 END key.part ≡ true → key.table < length desc.tables
+    at_table None no_table met =
+        absurd (both_ways (is_met 0 0 END key.part) (is_met-no_width 0 END key.part) met)
+    at_table (Some table) found met = slice_get_within desc.tables key.table table found
 
 -- what is read of a source are partitions
 keys_read-parts : (desc : DescOf) (width part : ℕ) (src : Src)

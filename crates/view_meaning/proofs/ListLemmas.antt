@@ -12,7 +12,7 @@ use Rattle.std.proofs.lemmas.List.{length-take, take-append-drop, take-append-le
 use Rattle.std.proofs.lemmas.List.{get_or-map, get_or_append_left, get_or_at}
 use Rattle.std.proofs.lemmas.List.{length-append}
 use Rattle.std.proofs.lemmas.List.Elements.{All-nil, All-cons, All-head, All-tail, All-map}
-use Rattle.std.proofs.lemmas.List.Elements.{All-append, All-same, All-take, All-drop, filter-append}
+use Rattle.std.proofs.lemmas.List.Elements.{All-append, All-same, All-take, All-drop}
 use Rattle.std.proofs.lemmas.List.Folds.{list_any-append, list_any_at, list_any_none}
 use Rattle.std.proofs.lemmas.List.FromFn.{length-range_with_len, get_or-range_with_len}
 use Rattle.std.proofs.lemmas.List.Kept.{AllPairs-cons}
@@ -187,28 +187,6 @@ filter-empty test [] found = refl
 filter-empty test (x ∷ xs) found =
     let parts = or_parts (test x) (list_any test xs) found in
     rw parts.0 (filter-empty test xs parts.1)
-
--- a test of mapped elements keeps the images of those whose images pass
-pub filter-map : {X Y : Type 0} (test : Y → Bool) (f : X → Y) (xs : List X)
-    → filter test (map f xs) ≡ map f (filter (λ x. test (f x)) xs)
-filter-map test f [] = refl
-filter-map test f (x ∷ xs) =
-    rw (filter-map test f xs) (each (test (f x)))
-  where
-    each : (passes : Bool)
-        → cond passes (f x ∷ map f (filter (λ x. test (f x)) xs))
-        (map f (filter (λ x. test (f x)) xs))
-        ≡ map f (cond passes (x ∷ filter (λ x. test (f x)) xs) (filter (λ x. test (f x)) xs))
-    each true = refl
-    each false = refl
-
--- a test keeps of joined lists what it keeps of each
-pub filter-flat_map : {X Y : Type 0} (test : Y → Bool) (f : X → List Y) (xs : List X)
-    → filter test (flat_map f xs) ≡ flat_map (λ x. filter test (f x)) xs
-filter-flat_map test f [] = refl
-filter-flat_map test f (x ∷ xs) =
-    filter-append test (f x) (flat_map f xs)
-    ∙ ap (λ rest. filter test (f x) ++ rest) (filter-flat_map test f xs)
 
 -- a number below the bound is one of those below it
 pub list_any-range_with_len : (number bound : ℕ) → number < bound

@@ -1,43 +1,37 @@
--- What is kept and set aside while nothing closes a partition: every row is kept.
-use Rattle.std.proofs.Common.{◌≡◌, ◌∙◌, List, [], ◌∷◌, ◌++◌, refl, sym, ap}
-use Rattle.std.specs.Prelude.{not}
+-- The rows that deliveries set aside, as they are accepted one after the other.
+use Rattle.std.proofs.Common.{◌≡◌, ◌∙◌, List, [], ◌∷◌, ◌++◌, sym, ap}
+use Rattle.std.specs.Prelude.{Bool, if◌then◌else◌}
 use Rattle.std.proofs.lemmas.List.{append-nil, append_assoc}
-use Rattle.desc_types.specs.declared.delivery.DRow.{DRow}
 use Rattle.desc_types.specs.Deliveries.{DeliveryOf}
 use Rattle.desc_types.specs.Descriptions.{DescOf}
-use Rattle.view_meaning.specs.SetAside.{is_late, kept_rows, aside_rows, kept_after, kept}
-use Rattle.partition_map.proofs.ListLemmas.{filter-none, filter-all}
+use Rattle.view_meaning.specs.declared.aside.Aside.{Aside}
+use Rattle.view_meaning.specs.SetAside.{asides_after, asides_of}
 
--- a delivery keeps all its rows
-pub kept_rows-all : (desc : DescOf) (before : List DeliveryOf) (delivery : DeliveryOf)
-    → kept_rows desc before delivery ≡ delivery.rows
-kept_rows-all desc before delivery =
-    filter-all (λ row. not (is_late desc before row)) delivery.rows (λ _ _ _. refl)
-
--- a delivery sets no row aside
-pub aside_rows-none : (desc : DescOf) (before : List DeliveryOf) (delivery : DeliveryOf)
-    → aside_rows desc before delivery ≡ []
-aside_rows-none desc before delivery =
-    filter-none (is_late desc before) delivery.rows (λ _ _ _. refl)
-
--- the rows that one delivery more keeps come last
-kept_after-push : (desc : DescOf) (before accepted : List DeliveryOf) (delivery : DeliveryOf)
-    → kept_after desc before (accepted ++ delivery ∷ [])
-    ≡ kept_after desc before accepted ++ kept_rows desc (before ++ accepted) delivery
-kept_after-push desc before [] delivery =
-    append-nil (kept_rows desc before delivery)
-    ∙ ap (λ (all : List DeliveryOf). kept_rows desc all delivery) (sym (append-nil before))
-kept_after-push desc before (first ∷ later) delivery =
-    ap (λ (rest : List DRow). kept_rows desc before first ++ rest)
-    (kept_after-push desc (before ++ first ∷ []) later delivery
+-- the rows of two lists of deliveries are those of the first, then those of the second
+pub asides_after-append : (desc : DescOf) (of : DeliveryOf → Bool)
+    (before accepted more : List DeliveryOf)
+    → asides_after desc of before (accepted ++ more)
+    ≡ asides_after desc of before accepted ++ asides_after desc of (before ++ accepted) more
+asides_after-append desc of before [] more =
+    ap (λ (all : List DeliveryOf). asides_after desc of all more) (sym (append-nil before))
+asides_after-append desc of before (delivery ∷ later) more =
+    let next = before ++ delivery ∷ [] in
+    let own = if of delivery then asides_of desc before delivery else [] in
+    ap (λ (rest : List Aside). own ++ rest)
+    (asides_after-append desc of next later more
     ∙ ap (λ (all : List DeliveryOf).
-    kept_after desc (before ++ first ∷ []) later ++ kept_rows desc all delivery)
-    (append_assoc before (first ∷ []) later))
-    ∙ sym (append_assoc (kept_rows desc before first)
-    (kept_after desc (before ++ first ∷ []) later)
-    (kept_rows desc (before ++ first ∷ later) delivery))
+    asides_after desc of next later ++ asides_after desc of all more)
+    (append_assoc before (delivery ∷ []) later))
+    ∙ sym (append_assoc own (asides_after desc of next later)
+    (asides_after desc of (before ++ delivery ∷ later) more))
 
--- the rows that one delivery more keeps come last, after those of all before it
-pub kept-push : (desc : DescOf) (accepted : List DeliveryOf) (delivery : DeliveryOf)
-    → kept desc (accepted ++ delivery ∷ []) ≡ kept desc accepted ++ kept_rows desc accepted delivery
-kept-push desc accepted delivery = kept_after-push desc [] accepted delivery
+-- the rows of one delivery more come last
+pub asides_after-push : (desc : DescOf) (of : DeliveryOf → Bool) (before accepted : List DeliveryOf)
+    (delivery : DeliveryOf)
+    → asides_after desc of before (accepted ++ delivery ∷ [])
+    ≡ asides_after desc of before accepted
+    ++ (if of delivery then asides_of desc (before ++ accepted) delivery else [])
+asides_after-push desc of before accepted delivery =
+    asides_after-append desc of before accepted (delivery ∷ [])
+    ∙ ap (λ (rows : List Aside). asides_after desc of before accepted ++ rows)
+    (append-nil (if of delivery then asides_of desc (before ++ accepted) delivery else []))

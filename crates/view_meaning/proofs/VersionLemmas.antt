@@ -42,11 +42,6 @@ loads_after-le desc key before [] more = omega arith
 loads_after-le desc key before (delivery ∷ later) more =
     omega (arith, loads_after-le desc key (before ++ delivery ∷ []) later more)
 
--- deliveries more never lower the version of a raw partition
-pub raw_version-le : (desc : DescOf) (accepted more : List DeliveryOf) (key : Key)
-    → raw_version desc accepted key ≤ raw_version desc (accepted ++ more) key
-raw_version-le desc accepted more key = loads_after-le desc key [] accepted more
-
 -- the version of a partition of another table is the number of its installs
 pub version-view : (desc : DescOf) (journal : List Entry) (key : Key)
     → is_raw (slice_get desc.tables key.table) ≡ false

@@ -1,5 +1,6 @@
 pub mod Partitions
 pub mod Journal
+pub mod Closing
 pub mod SetAside
 pub mod RawValues
 pub mod Growth
@@ -14,7 +15,11 @@ pub mod LegalJournals
 pub mod Contents
 pub mod Installs
 pub mod Drains
+pub mod Loading
 pub mod Reached
-pub mod PartLists
-pub mod Shown
+pub mod RawBelow
+pub mod Ranks
+pub mod RawMarks
+pub mod Stability
 pub mod Marks
+pub mod Shown

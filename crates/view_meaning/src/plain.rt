@@ -6,9 +6,11 @@ ghost use Rattle.std.specs.Option.{option_copied};
 ghost use Rattle.desc_types.specs.Kinds.{kind_of};
 ghost use Rattle.desc_types.specs.Sources.{table_width};
 ghost use Rattle.partition_map.specs.Time.{END};
-ghost use Rattle.partition_map.specs.Partitions.{is_covered, source_parts};
+ghost use Rattle.partition_map.specs.Partitions.{end_of, is_covered, source_parts};
+ghost use Rattle.view_meaning.specs.Closing.{closes};
 ghost use Rattle.view_meaning.specs.Journal.{tick_of, row_tick};
 ghost use Rattle.view_meaning.specs.Growth.{BeginsWith};
+ghost use Rattle.view_meaning.specs.RawMarks.{until_closed};
 ghost use Rattle.view_meaning.specs.RawValues.{raw_value};
 ghost use Rattle.view_meaning.specs.TableRows.{lies_in_table, cells_where};
 ghost use Rattle.view_meaning.specs.Values.{joined, value, value_within};
@@ -42,8 +44,8 @@ pub fn plain_value(
     Ok(rows)
 }
 
-/// The version of a raw table's partition: how many accepted deliveries brought a row of it. Of a
-/// key of no table or of a view it is 0.
+/// The version of a raw table's partition: how many accepted deliveries brought a row of it, up to
+/// the first one that closes it. Of a key of no table or of a view it is 0.
 pub fn plain_version(desc: &Desc, accepted: &[Delivery], key: Key) -> u64
     ensures exact { result ≡ raw_version desc.now accepted.now key }
 {
@@ -51,7 +53,8 @@ pub fn plain_version(desc: &Desc, accepted: &[Delivery], key: Key) -> u64
     let Some(table) = table_at(desc, key.table) else {
         return version;
     };
-    for delivery in accepted {
+    let deliveries = until_closed(desc, key, accepted);
+    for delivery in deliveries {
         if touches(table, key, delivery) {
             version += 1;
         }
@@ -141,10 +144,48 @@ fn push_raw(
     let Some(table) = table_at(desc, key.table) else {
         return Ok(());
     };
-    for delivery in accepted {
+    let deliveries = until_closed(desc, key, accepted);
+    for delivery in deliveries {
         push_rows(alloc, table, key, delivery, rows)?;
     }
     Ok(())
+}
+
+/// The deliveries up to the first one that closes the partition, with it, and all if none does.
+/// Those after it keep no row in the partition.
+fn until_closed<'a>(desc: &Desc, key: Key, accepted: &'a [Delivery]) -> &'a [Delivery]
+    ensures exact { result.now ≡ until_closed desc.now key accepted.now }
+{
+    for (index, delivery) in accepted.iter().enumerate() {
+        if closes(desc, key, delivery) {
+            return &accepted[..index + 1];
+        }
+    }
+    accepted
+}
+
+/// Whether a delivery closes the partition: it is of the feed of its table, and tells that no rows
+/// below the partition's end are expected after it.
+fn closes(desc: &Desc, key: Key, delivery: &Delivery) -> bool
+    ensures exact { result ≡ closes desc.now key delivery.now }
+{
+    let Some(table) = table_at(desc, key.table) else {
+        return false;
+    };
+    match &table.kind {
+        Kind::Raw { feed, .. } => {
+            *feed == delivery.feed && end_of(table.width, key.part) <= delivery.closes
+        }
+        Kind::Filter { .. } | Kind::Group { .. } | Kind::Join { .. } => false,
+    }
+}
+
+/// The tick after the last one of a partition, of any number.
+fn end_of(width: Width, part: u64) -> u64
+    ensures exact { result ≡ end_of width part }
+{
+    let start = part.saturating_mul(width.ticks());
+    start.saturating_add(width.ticks()).min(END)
 }
 
 /// The partitions of a source that a view's partition reads. A source that is no table has none.

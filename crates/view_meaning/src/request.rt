@@ -2,7 +2,7 @@
 
 ghost use Rattle.std.specs.Prelude.{◌≡◌};
 ghost use Rattle.std.specs.Ordering.{nat_cmp};
-ghost use Rattle.view_meaning.specs.Marks.{rank_of};
+ghost use Rattle.view_meaning.specs.Ranks.{rank_of};
 
 use desc_types::Key;
 use std::cmp::Ordering;
@@ -42,5 +42,12 @@ pub struct PinItem {
     pub key: Key,
     pub version: u64,
     pub upto: u64,
+    pub mark: Mark,
+}
+
+/// A partition with its mark.
+#[derive(Clone, Copy, Debug, PartialEq, Eq)]
+pub struct MarkItem {
+    pub key: Key,
     pub mark: Mark,
 }

@@ -1,7 +1,8 @@
-use Rattle.std.proofs.Common.{sym, arith}
-use Rattle.view_meaning.proofs.RawLemmas.{raw_version-take, raw_version-none}
+use Rattle.std.proofs.Common.{◌∙◌, sym, arith}
+use Rattle.std.proofs.lemmas.List.{take_all}
+use Rattle.view_meaning.proofs.RawLemmas.{raw_version-none}
+use Rattle.view_meaning.proofs.UntilClosedLemmas.{raw_version-until_closed}
 use Rattle.view_meaning.proofs.plain.plain_version.Goals as goal
-use Rattle.view_meaning.proofs.plain.plain_version.Goals.{then-touches, else-touches}
 
 pub returns-in_default : goal.returns-in_default
 returns-in_default c = record {
@@ -9,17 +10,13 @@ returns-in_default c = record {
       (sym c.in_default.ensures.exact));
 }
 
-pub loop-delivery-preserved : goal.loop-delivery-preserved
-loop-delivery-preserved c =
-    let more = raw_version-take c.args.desc.now c.args.accepted.now c.args.key
-    c.in-Some.table.now c.loop-delivery.delivery-index c.delivery-item.result c.touches.result
-    (sym c.in-Some.ensures.exact) c.loop-delivery-test.true c.delivery-item.is
-    c.touches.ensures.exact in
-    elim c.if-touches.branch [
-      | then-touches w ↦
-          let counted = rw w.if-touches.true at more in
-          record { counted = omega arith; few = omega arith }
-      | else-touches w ↦
-          let counted = rw w.if-touches.false at more in
-          record { counted = omega arith; few = omega arith }
-    ]
+pub returns : goal.returns
+returns c =
+    let all = take_all c.loop-delivery.delivery-index c.until_closed-deliveries.result.now
+    (omega arith) in
+    record {
+      exact = rw (all, c.until_closed-deliveries.ensures.exact)
+          at c.loop-delivery.invariant.counted
+          ∙ sym (raw_version-until_closed c.args.desc.now c.args.accepted.now c.args.key
+          c.in-Some.table.now (sym c.in-Some.ensures.exact));
+    }

@@ -1,8 +1,9 @@
-use Rattle.std.proofs.Common.{rules, sym, ap, ◌∙◌, ◌++◌, List}
-use Rattle.std.proofs.lemmas.List.{append-nil, append_assoc}
+use Rattle.std.proofs.Common.{rules, ◌∙◌, ◌++◌, List, sym, ap, arith}
+use Rattle.std.proofs.lemmas.List.{append-nil, take_all}
 use Rattle.depot_cell.specs.declared.cell.Cell.{Cell}
 use Rattle.view_meaning.proofs.ListLemmas.{BeginsWith-append}
-use Rattle.view_meaning.proofs.RawLemmas.{raw_value-take, raw_value-none}
+use Rattle.view_meaning.proofs.RawLemmas.{raw_value-none}
+use Rattle.view_meaning.proofs.UntilClosedLemmas.{raw_value-until_closed}
 use Rattle.view_meaning.proofs.plain.push_raw.Goals as goal
 
 pub returns-in_default-clause-ok : goal.returns-in_default-clause-ok
@@ -17,10 +18,10 @@ returns-in_err-push_rows-clause-err c =
     (rw c.loop-delivery.invariant at c.in_err-push_rows.ensures.err) in
     search rules
 
-pub loop-delivery-preserved : goal.loop-delivery-preserved
-loop-delivery-preserved c =
-    let more = raw_value-take c.args.desc.now c.args.accepted.now c.args.key
-    c.in-Some.table.now c.loop-delivery.delivery-index c.delivery-item.result
-    (sym c.in-Some.ensures.exact) c.loop-delivery-test.true c.delivery-item.is in
-    rw (c.loop-delivery.invariant, append_assoc) at c.in_ok-push_rows.ensures.ok
-    ∙ sym (ap (λ (rows : List (List Cell)). c.args.rows.now ++ rows) more)
+pub returns-clause-ok : goal.returns-clause-ok
+returns-clause-ok c =
+    let all = take_all c.loop-delivery.delivery-index c.until_closed-deliveries.result.now
+    (omega arith) in
+    rw (raw_value-until_closed c.args.desc.now c.args.accepted.now c.args.key c.in-Some.table.now
+    (sym c.in-Some.ensures.exact))
+    (rw (all, c.until_closed-deliveries.ensures.exact) at c.loop-delivery.invariant)
