@@ -19,6 +19,7 @@ use Rattle.desc_types.specs.declared.delivery.DRow.{DRow}
 use Rattle.desc_types.specs.Deliveries.{DeliveryOf}
 use Rattle.desc_types.specs.Keys.{key_cmp}
 use Rattle.desc_types.proofs.ListLemmas.{slice_get-push}
+use Rattle.raw_load.specs.declared.feed.FeedBook.{FeedBook}
 use Rattle.raw_load.specs.declared.loads.Loads.{Loads}
 use Rattle.raw_load.specs.declared.piece.Number.{Number}
 use Rattle.raw_load.specs.declared.piece.Piece.{Piece}
@@ -107,10 +108,11 @@ kept-piece_rows_by deliveries parts key ordered =
     ∙ unwrap_or-has_some (lookup (is_at (key_cmp key)) (piece_rows_by deliveries parts))
 
 -- what a book keeps of a partition are the rows of its pieces
-pub kept_in-pieces : (loads : Loads) (key : Key) → AreOrdered loads.parts.entries
-    → kept_in (book_of loads) key
+pub kept_in-pieces : (loads : Loads) (feeds : List FeedBook) (key : Key)
+    → AreOrdered loads.parts.entries
+    → kept_in (book_of loads feeds) key
     ≡ map (piece_rows loads.deliveries.items) (pieces_at loads.parts.entries key)
-kept_in-pieces loads key ordered =
+kept_in-pieces loads feeds key ordered =
     kept-piece_rows_by loads.deliveries.items loads.parts.entries key ordered
     ∙ ap (λ (found : Option (List (List (List Cell)))). unwrap_or found [])
     (lookup-map_values rows (is_at (key_cmp key)) loads.parts.entries)

@@ -1,6 +1,11 @@
 pub mod CompareLemmas
 pub mod LyingLemmas
 pub mod StretchLemmas
+pub mod SortLemmas
+pub mod PreparingLemmas
 pub mod PartLemmas
 pub mod BookLemmas
+pub mod FeedLemmas
+pub mod RoomLemmas
 pub mod LoadLemmas
+pub mod ReadyLemmas

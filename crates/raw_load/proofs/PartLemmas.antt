@@ -1,8 +1,8 @@
 -- Maps by key, as one value is put into them: stretches and pieces of a partition.
 use Rattle.std.proofs.Common.{◌≡◌, ◌∙◌, ◌<◌, List, [], ◌∷◌, ◌++◌, refl, ap, inl, inr, subst, map}
-use Rattle.std.proofs.Common.{sym, None}
+use Rattle.std.proofs.Common.{append-nil, sym, None}
 use Rattle.std.specs.Prelude.{filter, Bool, true, false, cond, ◌⊎◌, Some, All, IsSome, Vec, vec_len}
-use Rattle.std.specs.Prelude.{vec_capacity}
+use Rattle.std.specs.Prelude.{vec_capacity, if◌then◌else◌}
 use Rattle.std.specs.declared.cmp.Ordering.{Ordering}
 use Rattle.std.specs.declared.cmp.Ordering.TheVariants.{Less, Equal, Greater}
 use Rattle.std.specs.Map.{keys_of, lookup, set_value}
@@ -18,7 +18,8 @@ use Rattle.raw_load.specs.declared.piece.Piece.{Piece}
 use Rattle.raw_load.specs.declared.piece.Stretch.{Stretch}
 use Rattle.raw_load.specs.Stretches.{AddsStretch, Stretches, found_at, stretches_in}
 use Rattle.raw_load.specs.Pieces.{AreOrdered, has_some, piece_rows, piece_rows_by, rows_kept_by}
-use Rattle.raw_load.specs.Pieces.{HasRoom, HasRoomFor, KeepsPieces, Parts, pieces_at, pieces_in}
+use Rattle.raw_load.specs.Pieces.{GainsPiece, HasPieceRoom, HasPieceRooms, KeepsPieces, Parts}
+use Rattle.raw_load.specs.Pieces.{pieces_at, pieces_in}
 use Rattle.raw_load.proofs.CompareLemmas.{is_at-key_cmp-itself, is_at-key_cmp-same}
 
 -- a map has a value at a key, and at each other key what it had
@@ -171,26 +172,42 @@ KeepsPieces-step old now new before after = record {
 }
 
 -- each partition keeps its room, if one gets a vector that has room if there was some
-pub HasRoom-update : (key : Key) (pieces : Vec Piece Global) (old new : Parts)
-    → IsUpdate key pieces old new → (HasRoom old key → vec_len pieces < vec_capacity pieces)
-    → (other : Key) → HasRoom old other → HasRoom new other
-HasRoom-update key pieces old new updates room =
-    at_each (λ other. HasRoom old other → HasRoom new other) key
+pub HasPieceRoom-update : (key : Key) (pieces : Vec Piece Global) (old new : Parts)
+    → IsUpdate key pieces old new → (HasPieceRoom old key → vec_len pieces < vec_capacity pieces)
+    → (other : Key) → HasPieceRoom old other → HasPieceRoom new other
+HasPieceRoom-update key pieces old new updates room =
+    at_each (λ other. HasPieceRoom old other → HasPieceRoom new other) key
     (λ had. rw (IsUpdate-itself key pieces old new updates) (room had))
     (λ other apart had. rw (IsUpdate-other key other pieces old new updates apart) had)
 
+-- a partition gains a piece, if it gets a vector with the piece at its end
+pub GainsPiece-update : (key : Key) (piece : Piece) (had has : Vec Piece Global) (old new : Parts)
+    → Some had ≡ lookup (is_at (key_cmp key)) old → has.items ≡ had.items ++ piece ∷ []
+    → IsUpdate key has old new → AreOrdered new → GainsPiece key piece old new
+GainsPiece-update key piece had has old new found items updates ordered = record {
+  exact = at_each (λ other. pieces_at new other
+      ≡ pieces_at old other ++ (if is_at (key_cmp key) other then piece ∷ [] else [])) key
+      (ap pieces_in (IsUpdate-itself key has old new updates) ∙ items
+      ∙ rw (is_at-key_cmp-itself key, ← found) refl)
+      (λ other apart. rw apart
+      (ap pieces_in (IsUpdate-other key other has old new updates apart)
+      ∙ sym (append-nil (pieces_at old other))));
+  rooms = λ other apart had. rw (IsUpdate-other key other has old new updates apart) had;
+  ordered = λ _. ordered;
+}
+
 -- a partition of which stretches were found has room, if each key that is kept has
-pub HasRoomFor-keys : (parts : Parts) (found : Stretches) → All (HasRoom parts) (keys_of found)
-    → HasRoomFor parts found
-HasRoomFor-keys parts [] all key some = absurd (false≢true some)
-HasRoomFor-keys parts (entry ∷ found) all key some =
+pub HasPieceRooms-keys : (parts : Parts) (found : Stretches)
+    → All (HasPieceRoom parts) (keys_of found) → HasPieceRooms parts found
+HasPieceRooms-keys parts [] all key some = absurd (false≢true some)
+HasPieceRooms-keys parts (entry ∷ found) all key some =
     at_first (cases_Bool (is_at (key_cmp key) entry.0)) some
-    (HasRoomFor-keys parts found (All-tail (HasRoom parts) entry.0 (keys_of found) all) key)
+    (HasPieceRooms-keys parts found (All-tail (HasPieceRoom parts) entry.0 (keys_of found) all) key)
   where
     at_first : (is_at (key_cmp key) entry.0 ≡ true) ⊎ (is_at (key_cmp key) entry.0 ≡ false)
-        → IsSome (found_at (entry ∷ found) key) → (IsSome (found_at found key) → HasRoom parts key)
-        → HasRoom parts key
+        → IsSome (found_at (entry ∷ found) key)
+        → (IsSome (found_at found key) → HasPieceRoom parts key) → HasPieceRoom parts key
     at_first (inl same) some later =
         rw (is_at-key_cmp-same key entry.0 same)
-        (All-head (HasRoom parts) entry.0 (keys_of found) all)
+        (All-head (HasPieceRoom parts) entry.0 (keys_of found) all)
     at_first (inr apart) some later = later (rw apart at some)

@@ -1,21 +1,20 @@
 -- What a book is made of: its deliveries, their places, their numbers and the pieces of partitions.
-use Rattle.std.specs.Prelude.{ℕ, ◌≡◌, ◌<◌, ◌∷◌, ◌++◌, List, [], Option, Some, None, Vec, All}
-use Rattle.std.specs.Prelude.{vec_len, vec_capacity, length, slice_get, if◌then◌else◌}
+use Rattle.std.specs.Prelude.{ℕ, ◌≡◌, ◌<◌, ◌∷◌, ◌++◌, List, [], Option, Some, None, All}
+use Rattle.std.specs.Prelude.{vec_len, vec_capacity, length, map, slice_get, if◌then◌else◌}
 use Rattle.std.specs.Map.{lookup}
-use Rattle.std.specs.BTreeMap.{BTreeMap, is_at}
+use Rattle.std.specs.BTreeMap.{is_at}
 use Rattle.std.specs.Ordering.{nat_cmp, ordering_then}
 use Rattle.std.specs.declared.cmp.Ordering.{Ordering}
-use Rattle.std.specs.declared.alloc.Global.{Global}
 use Rattle.desc_types.specs.declared.table.Key.{Key}
 use Rattle.desc_types.specs.Deliveries.{DeliveryOf}
-use Rattle.desc_types.specs.Descriptions.{DescOf}
+use Rattle.raw_load.specs.declared.feed.FeedBook.{FeedBook}
 use Rattle.raw_load.specs.declared.loads.Loads.{Loads}
 use Rattle.raw_load.specs.declared.piece.Number.{Number}
-use Rattle.raw_load.specs.declared.piece.Stretch.{Stretch}
-use Rattle.raw_load.specs.Stretches.{Stretches, TellsRows}
-use Rattle.raw_load.specs.Pieces.{AreOrdered, GainsPieces, HasRoomFor, IsPieceOf, KeepsPieces}
+use Rattle.raw_load.specs.Stretches.{Stretches}
+use Rattle.raw_load.specs.Pieces.{AreOrdered, GainsPieces, HasPieceRooms, IsPieceOf, KeepsPieces}
 use Rattle.raw_load.specs.Pieces.{pieces_at, rows_kept_by}
 use Rattle.raw_load.specs.Books.{LoadOf, RawBookOf, is_numbered, place_in}
+use Rattle.raw_load.specs.Feeds.{feed_of}
 
 -- deliveries, each with the place that stands at its index
 abbrev pub loads_of : (places : List ℕ) → List DeliveryOf → List LoadOf
@@ -54,11 +53,12 @@ AreNumbered loads numbers = (number : Number)
     → place_found loads number (index_at numbers number)
     ≡ place_in loads number.feed number.number
 
--- the book that loads make
-abbrev pub book_of : Loads → RawBookOf
-book_of loads = record {
+-- the book that loads make, and what is kept of each feed
+abbrev pub book_of : Loads → List FeedBook → RawBookOf
+book_of loads feeds = record {
   loads = loads_of loads.places.items loads.deliveries.items;
   kept = rows_kept_by loads.deliveries.items loads.parts.entries;
+  feeds = map feed_of feeds;
 }
 
 -- the parts of loads are of one list of deliveries: each has a place, each number leads to its
@@ -75,31 +75,31 @@ pub record AreLoads (loads : Loads) : Type 0 where
 abbrev pub number_of : DeliveryOf → Number
 number_of delivery = record { feed = delivery.feed; number = delivery.number }
 
--- nothing that can be seen has changed
-pub record IsAsBefore (old new : Loads) : Type 0 where
+-- loads have the deliveries that they had, with their places and pieces
+pub record KeepsLoads (old new : Loads) : Type 0 where
   pub places : new.places.items ≡ old.places.items
   pub deliveries : new.deliveries.items ≡ old.deliveries.items
-  pub numbers : new.numbers.entries ≡ old.numbers.entries
   pub pieces : KeepsPieces old.parts.entries new.parts.entries
+
+-- and each number leads to where it led
+pub record IsAsBefore (old new : Loads) : Type 0 where
+  pub kept : KeepsLoads old new
+  pub numbers : new.numbers.entries ≡ old.numbers.entries
 
 -- there is room for a delivery with these stretches
 pub record HasRoomToCommit (loads : Loads) (found : Stretches) : Type 0 where
   pub places : vec_len loads.places < vec_capacity loads.places
   pub deliveries : vec_len loads.deliveries < vec_capacity loads.deliveries
-  pub pieces : HasRoomFor loads.parts.entries found
+  pub pieces : HasPieceRooms loads.parts.entries found
 
--- a delivery may be accepted: its rows were found and there is room for all of it. Its number leads
--- to the index at which it will stand
-pub record IsReady (desc : DescOf) (delivery : DeliveryOf) (old new : Loads)
-    (found : BTreeMap Key (Vec Stretch Global)) : Type 0 where
-  pub places : new.places.items ≡ old.places.items
-  pub deliveries : new.deliveries.items ≡ old.deliveries.items
-  pub numbers : (number : Number) → index_at new.numbers.entries number
-      ≡ (if is_at (number_cmp (number_of delivery)) number then Some (length old.deliveries.items)
-      else index_at old.numbers.entries number)
-  pub pieces : KeepsPieces old.parts.entries new.parts.entries
-  pub told : TellsRows desc delivery.rows (length delivery.rows) found.entries
-  pub room : HasRoomToCommit new found.entries
+-- loads have what they had, and there is room for a delivery: its number leads to the index at
+-- which it will stand
+pub record IsReady (number : Number) (found : Stretches) (old new : Loads) : Type 0 where
+  pub kept : KeepsLoads old new
+  pub numbers : (other : Number) → index_at new.numbers.entries other
+      ≡ (if is_at (number_cmp number) other then Some (length old.deliveries.items)
+      else index_at old.numbers.entries other)
+  pub room : HasRoomToCommit new found
 
 -- a delivery was accepted, with these stretches
 pub record Accepts (delivery : DeliveryOf) (place : ℕ) (found : Stretches)

@@ -75,20 +75,20 @@ pub record KeepsPieces (old new : Parts) : Type 0 where
   pub ordered : AreOrdered old → AreOrdered new
 
 -- a partition is there, and has room for a piece more
-abbrev pub HasRoom : Parts → Key → Type 0
-HasRoom parts key = IsSomeAnd (lookup (is_at (key_cmp key)) parts)
+abbrev pub HasPieceRoom : Parts → Key → Type 0
+HasPieceRoom parts key = IsSomeAnd (lookup (is_at (key_cmp key)) parts)
     (λ pieces. vec_len pieces < vec_capacity pieces)
 
 -- so has each partition of which stretches were found
-abbrev pub HasRoomFor : Parts → Stretches → Type 0
-HasRoomFor parts found = (key : Key) → IsSome (found_at found key) → HasRoom parts key
+abbrev pub HasPieceRooms : Parts → Stretches → Type 0
+HasPieceRooms parts found = (key : Key) → IsSome (found_at found key) → HasPieceRoom parts key
 
 -- a partition has one piece more at its end, each other one has what it had, and room if it had it
 pub record GainsPiece (key : Key) (piece : Piece) (old new : Parts) : Type 0 where
   pub exact : (other : Key) → pieces_at new other
       ≡ pieces_at old other ++ (if is_at (key_cmp key) other then piece ∷ [] else [])
   pub rooms : (other : Key) → is_at (key_cmp key) other ≡ false
-      → HasRoom old other → HasRoom new other
+      → HasPieceRoom old other → HasPieceRoom new other
   pub ordered : AreOrdered old → AreOrdered new
 
 -- a delivery's piece, if stretches of a partition were found in it

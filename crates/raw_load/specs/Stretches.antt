@@ -18,10 +18,14 @@ use Rattle.view_meaning.specs.RawValues.{lies_in}
 use Rattle.view_meaning.specs.TableRows.{cells_where}
 use Rattle.raw_load.specs.declared.piece.Stretch.{Stretch}
 
--- the rows of a stretch of some rows
+-- rows from one on, so many
+abbrev pub run_of : List DRow → (first count : ℕ) → List DRow
+run_of rows first count = take count (drop first rows)
+
+-- the cells of the rows of a stretch of some rows
 abbrev pub stretch_rows : List DRow → Stretch → List (List Cell)
 stretch_rows rows stretch =
-    map (λ (row : DRow). row.cells) (take stretch.count (drop stretch.first rows))
+    map (λ (row : DRow). row.cells) (run_of rows stretch.first stretch.count)
 
 -- the rows of some stretches, stretch by stretch
 abbrev pub stretches_rows : List DRow → List Stretch → List (List Cell)
@@ -44,26 +48,18 @@ stretches_in (Some stretches) = stretches.items
 abbrev pub found_at : Stretches → Key → Option (Vec Stretch Global)
 found_at found key = lookup (is_at (key_cmp key)) found
 
--- what was found of a partition among the first rows: if one of these lies in it, the stretches
--- that have just those that do, in their order
-pub record TellsPart (desc : DescOf) (rows : List DRow) (upto : ℕ) (key : Key)
+-- what was found of a partition among those of the rows that are kept: if one of these lies in it,
+-- the stretches that have just those that do, in their order
+pub record TellsPart (desc : DescOf) (rows kept : List DRow) (key : Key)
     (found : Option (Vec Stretch Global)) : Type 0 where
-  pub some : is_some found ≡ list_any (lies_in desc key) (take upto rows)
-  pub exact : stretches_rows rows (stretches_in found)
-      ≡ cells_where (lies_in desc key) (take upto rows)
+  pub some : is_some found ≡ list_any (lies_in desc key) kept
+  pub exact : stretches_rows rows (stretches_in found) ≡ cells_where (lies_in desc key) kept
   pub within : All (IsStretchOf rows) (stretches_in found)
 
 -- so it is of each partition
-abbrev pub TellsRows : DescOf → List DRow → (upto : ℕ) → Stretches → Type 0
-TellsRows desc rows upto found =
-    (key : Key) → TellsPart desc rows upto key (found_at found key)
-
--- from a row on, so many more were taken in
-pub record TakesRun (desc : DescOf) (rows : List DRow) (first count : ℕ)
-    (old new : Stretches) : Type 0 where
-  pub some : 1 ≤ count
-  pub within : first + count ≤ length rows
-  pub kept : TellsRows desc rows first old → TellsRows desc rows (first + count) new
+abbrev pub TellsRows : DescOf → (rows kept : List DRow) → Stretches → Type 0
+TellsRows desc rows kept found =
+    (key : Key) → TellsPart desc rows kept key (found_at found key)
 
 -- a partition has one stretch more at its end, and each other one has what it had
 pub record AddsStretch (key : Key) (stretch : Stretch) (old new : Stretches) : Type 0 where
@@ -76,10 +72,14 @@ pub record AddsStretch (key : Key) (stretch : Stretch) (old new : Stretches) : T
 abbrev pub LiesOnlyIn : DescOf → Key → DRow → Type 0
 LiesOnlyIn desc key row = (other : Key) → lies_in desc other row ≡ is_at (key_cmp key) other
 
+-- a row lies in no partition
+abbrev pub LiesNowhere : DescOf → DRow → Type 0
+LiesNowhere desc row = (key : Key) → lies_in desc key row ≡ false
+
 -- the key is that of the partition that a row lies in, if there is one
 abbrev pub IsKeyOf : DescOf → DRow → Option Key → Type 0
-IsKeyOf desc row found = MatchOption found ((key : Key) → lies_in desc key row ≡ false)
-    (λ key. LiesOnlyIn desc key row)
+IsKeyOf desc row found =
+    MatchOption found (LiesNowhere desc row) (λ key. LiesOnlyIn desc key row)
 
 -- a partition begins in time
 abbrev pub IsInTime : DescOf → Key → Type 0

@@ -2,14 +2,13 @@
 //! first takes all memory that is needed, and changes nothing that can be seen; the second takes
 //! none.
 
-ghost use Rattle.std.specs.Prelude.{◌≡◌, [], IfOk, OnErr};
+ghost use Rattle.std.specs.Prelude.{◌≡◌, [], OnErr, OnOk};
 ghost use Rattle.raw_load.specs.Loads.{Accepts, HasRoomToCommit, IsAsBefore, IsReady};
 
 use crate::parts::{make_room, push_pieces};
 use crate::piece::{Number, Piece, Stretch};
-use crate::stretches::stretches_of;
 use depot_cell::Memory;
-use desc_types::{Delivery, Desc, Key};
+use desc_types::{Delivery, Key};
 use std::alloc::Global;
 use std::collections::BTreeMap;
 
@@ -40,27 +39,26 @@ impl Loads {
         }
     }
 
-    /// Takes the memory that a delivery needs to be accepted, and answers where the rows of each
-    /// partition lie in it.
-    pub(crate) fn prepare(
+    /// What memory is taken from.
+    pub(crate) fn allocator(&self) -> Global {
+        *self.deliveries.allocator()
+    }
+
+    /// Takes the memory that a delivery of this number with these stretches needs to be accepted.
+    /// If there is none, each number leads to where it led.
+    pub(crate) fn make_room(
         &mut self,
-        desc: &Desc,
-        delivery: &Delivery,
-    ) -> Result<BTreeMap<Key, Vec<Stretch>>, Memory>
-        ensures ok { IfOk result (IsReady desc.now delivery.now self.old self.new) }
+        number: Number,
+        found: &BTreeMap<Key, Vec<Stretch>>,
+    ) -> Result<(), Memory>
+        ensures ok { OnOk result (IsReady number found.now.entries self.old self.new) }
         ensures err { OnErr result (IsAsBefore self.old self.new) }
     {
-        let alloc = *self.deliveries.allocator();
-        let found = stretches_of(alloc, desc, &delivery.rows)?;
-        make_room(alloc, &mut self.parts, &found)?;
+        make_room(self.allocator(), &mut self.parts, found)?;
         self.places.reserve(1)?;
         self.deliveries.reserve(1)?;
-        let number = Number {
-            feed: delivery.feed,
-            number: delivery.number,
-        };
         match self.numbers.insert(number, self.deliveries.len()) {
-            Ok(_) => Ok(found),
+            Ok(_) => Ok(()),
             Err(_) => Err(Memory),
         }
     }

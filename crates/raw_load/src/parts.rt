@@ -3,8 +3,8 @@
 ghost use Rattle.std.specs.Prelude.{◌≡◌, OnOk};
 ghost use Rattle.std.specs.declared.alloc.Global.{Global as GlobalOf};
 ghost use Rattle.desc_types.specs.declared.table.Key.{Key as KeyOf};
-ghost use Rattle.raw_load.specs.Pieces.{GainsPiece, GainsPieces, HasRoom, HasRoomFor, KeepsPieces};
-ghost use Rattle.raw_load.specs.Pieces.{pieces_at};
+ghost use Rattle.raw_load.specs.Pieces.{GainsPiece, GainsPieces, HasPieceRoom, HasPieceRooms};
+ghost use Rattle.raw_load.specs.Pieces.{KeepsPieces, pieces_at};
 
 use crate::piece::{Piece, Stretch};
 use depot_cell::Memory;
@@ -28,7 +28,7 @@ pub(crate) fn make_room(
     parts: &mut BTreeMap<Key, Vec<Piece>>,
     found: &BTreeMap<Key, Vec<Stretch>>,
 ) -> Result<(), Memory>
-    ensures ok { OnOk result (HasRoomFor parts.new.entries found.now.entries) }
+    ensures ok { OnOk result (HasPieceRooms parts.new.entries found.now.entries) }
     ensures kept { KeepsPieces parts.old.entries parts.new.entries }
 {
     for key in found.keys() {
@@ -43,9 +43,9 @@ fn make_room_at(
     parts: &mut BTreeMap<Key, Vec<Piece>>,
     key: Key,
 ) -> Result<(), Memory>
-    ensures ok { OnOk result (HasRoom parts.new.entries key) }
-    ensures rooms { (other : KeyOf) → HasRoom parts.old.entries other
-        → HasRoom parts.new.entries other }
+    ensures ok { OnOk result (HasPieceRoom parts.new.entries key) }
+    ensures rooms { (other : KeyOf) → HasPieceRoom parts.old.entries other
+        → HasPieceRoom parts.new.entries other }
     ensures kept { KeepsPieces parts.old.entries parts.new.entries }
 {
     if let Some(pieces) = parts.get_mut(&key) {
@@ -65,7 +65,7 @@ pub(crate) fn push_pieces(
     delivery: usize,
     mut found: BTreeMap<Key, Vec<Stretch>>,
 )
-    requires room { HasRoomFor parts.old.entries found.entries }
+    requires room { HasPieceRooms parts.old.entries found.entries }
     ensures gained { GainsPieces delivery found.entries parts.old.entries parts.new.entries }
 {
     while let Some((key, stretches)) = found.pop_first() {
@@ -82,7 +82,7 @@ pub(crate) fn push_pieces(
 
 /// Puts a piece at the end of those of a partition. It takes no memory.
 fn push_piece(parts: &mut BTreeMap<Key, Vec<Piece>>, key: Key, piece: Piece)
-    requires room { HasRoom parts.old.entries key }
+    requires room { HasPieceRoom parts.old.entries key }
     ensures gained { GainsPiece key piece parts.old.entries parts.new.entries }
 {
     match parts.get_mut(&key) {

@@ -1,5 +1,10 @@
 //! Where rows of deliveries lie, and what tells one delivery from another.
 
+ghost use Rattle.std.specs.Prelude.{◌≡◌};
+ghost use Rattle.raw_load.specs.Loads.{number_of};
+
+use desc_types::Delivery;
+
 /// Rows of a delivery that follow one another: the index of the first, and how many they are.
 #[derive(Clone, Copy, Debug, PartialEq, Eq)]
 pub(crate) struct Stretch {
@@ -20,4 +25,14 @@ pub(crate) struct Piece {
 pub(crate) struct Number {
     pub(crate) feed: u16,
     pub(crate) number: u32,
+}
+
+/// What a delivery is known by.
+pub(crate) fn number_of(delivery: &Delivery) -> Number
+    ensures exact { result ≡ number_of delivery.now }
+{
+    Number {
+        feed: delivery.feed,
+        number: delivery.number,
+    }
 }

@@ -1,15 +1,14 @@
-//! In which stretches of a delivery the rows of each partition lie. Rows mostly come in order of
-//! time, so that most lie in the partition of the row before. Such a row costs a compare of its
-//! tick: neither is its partition computed, nor its key looked up.
+//! In which partition a row lies, and how many of the rows that follow lie there too. Rows mostly
+//! come in order of time, so that most lie in the partition of the row before. Such a row costs a
+//! compare of its tick: neither is its partition computed, nor its key looked up.
 
-ghost use Rattle.std.specs.Prelude.{true, Some, ◌≡◌, ◌+◌, ◌<◌, ◌≤◌, ◌&&◌, ◌==◌};
-ghost use Rattle.std.specs.Prelude.{IfOk, IfSome, OnOk, All, length, slice_get, take};
+ghost use Rattle.std.specs.Prelude.{true, Some, ◌≡◌, ◌<◌, ◌≤◌, ◌&&◌, ◌==◌};
+ghost use Rattle.std.specs.Prelude.{IfSome, OnOk, All, length, slice_get, take};
 ghost use Rattle.partition_map.specs.Time.{END};
 ghost use Rattle.partition_map.specs.Partitions.{start_of};
 ghost use Rattle.view_meaning.specs.Journal.{row_tick};
 ghost use Rattle.view_meaning.specs.TableRows.{lies_in_table};
-ghost use Rattle.raw_load.specs.Stretches.{AddsStretch, IsInTime, IsKeyOf, TakesRun, TellsRows};
-ghost use Rattle.raw_load.specs.Stretches.{is_between};
+ghost use Rattle.raw_load.specs.Stretches.{AddsStretch, IsInTime, IsKeyOf, is_between};
 
 use crate::piece::Stretch;
 use depot_cell::Memory;
@@ -19,46 +18,8 @@ use std::alloc::Global;
 use std::collections::BTreeMap;
 use view_meaning::{part_of_row, row_tick};
 
-/// The stretches of each partition that has one of the rows.
-pub(crate) fn stretches_of(
-    alloc: Global,
-    desc: &Desc,
-    rows: &[DRow],
-) -> Result<BTreeMap<Key, Vec<Stretch>>, Memory>
-    ensures exact { IfOk result (λ found.
-        TellsRows desc.now rows.now (length rows.now) found.entries) }
-{
-    let mut found = BTreeMap::new(alloc);
-    let mut first = 0;
-    while first < rows.len() {
-        first += take_run(alloc, desc, rows, first, &mut found)?;
-    }
-    Ok(found)
-}
-
-/// Takes in the row at an index, with those that follow it in the same partition, and answers how
-/// many they are.
-fn take_run(
-    alloc: Global,
-    desc: &Desc,
-    rows: &[DRow],
-    first: usize,
-    found: &mut BTreeMap<Key, Vec<Stretch>>,
-) -> Result<usize, Memory>
-    requires within { first < length rows.now }
-    ensures ok { IfOk result (λ count.
-        TakesRun desc.now rows.now first count found.old.entries found.new.entries) }
-{
-    let Some(key) = key_of(desc, &rows[first]) else {
-        return Ok(1);
-    };
-    let count = 1 + run_len(table_of(desc, key), key, &rows[first + 1..]);
-    push_stretch(alloc, key, Stretch { first, count }, found)?;
-    Ok(count)
-}
-
 /// The partition that a row lies in, if there is one.
-fn key_of(desc: &Desc, row: &DRow) -> Option<Key>
+pub(crate) fn key_of(desc: &Desc, row: &DRow) -> Option<Key>
     ensures exact { IsKeyOf desc.now row.now result }
     ensures within { IfSome result (λ key. key.table < length desc.now.tables) }
     ensures in_time { IfSome result (IsInTime desc.now) }
@@ -73,7 +34,7 @@ fn key_of(desc: &Desc, row: &DRow) -> Option<Key>
 }
 
 /// The table of a partition.
-fn table_of(desc: &Desc, key: Key) -> &Table
+pub(crate) fn table_of(desc: &Desc, key: Key) -> &Table
     requires within { key.table < length desc.now.tables }
     ensures exact { slice_get desc.now.tables key.table ≡ Some result.now }
 {
@@ -81,7 +42,7 @@ fn table_of(desc: &Desc, key: Key) -> &Table
 }
 
 /// How many of the first rows lie in a partition of this table.
-fn run_len(table: &Table, key: Key, rows: &[DRow]) -> usize
+pub(crate) fn run_len(table: &Table, key: Key, rows: &[DRow]) -> usize
     requires in_time { start_of table.now.width key.part < END }
     ensures within { result ≤ length rows.now }
     ensures each { All (λ row. lies_in_table table.now key row ≡ true) (take result rows.now) }
@@ -112,7 +73,7 @@ fn lies_between(table: &Table, number: u16, from: u64, end: u64, row: &DRow) -> 
 }
 
 /// Puts a stretch at the end of those of a partition.
-fn push_stretch(
+pub(crate) fn push_stretch(
     alloc: Global,
     key: Key,
     stretch: Stretch,

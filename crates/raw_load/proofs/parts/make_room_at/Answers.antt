@@ -1,12 +1,12 @@
 -- A vector with the same pieces is put at the key.
 use Rattle.std.proofs.Common.{arith, refl}
 use Rattle.std.specs.Prelude.{◌<◌, vec_capacity, vec_len}
-use Rattle.raw_load.proofs.PartLemmas.{HasRoom-update, KeepsPieces-lent, KeepsPieces-put}
+use Rattle.raw_load.proofs.PartLemmas.{HasPieceRoom-update, KeepsPieces-lent, KeepsPieces-put}
 use Rattle.raw_load.proofs.parts.make_room_at.Goals as goal
 
 pub returns-in_err-reserve-clause-rooms : goal.returns-in_err-reserve-clause-rooms
 returns-in_err-reserve-clause-rooms c =
-    HasRoom-update c.args.key c.reserve.new.self _ _
+    HasPieceRoom-update c.args.key c.reserve.new.self _ _
     ((c.get_mut.follows.holds c.reserve.new.self).3 (rw (← c.in-Some.ensures.value) refl)).0
     (λ had.
     let room : vec_len c.in-Some.pieces.now < vec_capacity c.in-Some.pieces.now =
@@ -22,7 +22,7 @@ returns-in_err-reserve-clause-kept c =
 
 pub returns-in-Some-clause-rooms : goal.returns-in-Some-clause-rooms
 returns-in-Some-clause-rooms c =
-    HasRoom-update c.args.key c.reserve.new.self _ _
+    HasPieceRoom-update c.args.key c.reserve.new.self _ _
     ((c.get_mut.follows.holds c.reserve.new.self).3 (rw (← c.in-Some.ensures.value) refl)).0
     (λ _. omega (arith, c.in_ok-reserve.ensures.ok))
 
@@ -35,7 +35,7 @@ returns-in-Some-clause-kept c =
 
 pub returns-in-Ok-clause-rooms : goal.returns-in-Ok-clause-rooms
 returns-in-Ok-clause-rooms c =
-    HasRoom-update c.args.key _ _ _
+    HasPieceRoom-update c.args.key _ _ _
     (rw c.get_mut.follows.holds-at-none at c.in-Ok.ensures.updates.0)
     (λ _. omega (arith, c.in_ok-with_capacity.ensures.len, c.in_ok-with_capacity.ensures.exact))
 

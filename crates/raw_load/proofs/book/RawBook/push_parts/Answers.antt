@@ -11,7 +11,8 @@ returns c =
     record {
       ok = rw (
         ← c.self.view_is,
-        kept_in-pieces c.self.inside.loads c.args.key c.self.invariant.ordered,
+        kept_in-pieces c.self.inside.loads c.self.inside.feeds.items c.args.key
+            c.self.invariant.ordered,
         rows_of-take c.self.inside.loads.deliveries.items pieces c.args.version c.min-count.result
             (c.min-count.ensures
             ∙ ap (λ pieces. min (length pieces) c.args.version) c.pieces_at-pieces.ensures.exact),

@@ -8,7 +8,8 @@ pub returns : goal.returns
 returns c = record {
   exact = rw (
     ← c.self.view_is,
-    kept_in-pieces c.self.inside.loads c.args.key c.self.invariant.ordered,
+    kept_in-pieces c.self.inside.loads c.self.inside.feeds.items c.args.key
+        c.self.invariant.ordered,
   )
       (ap (λ pieces. length pieces) c.pieces_at.ensures.exact ∙ sym (length-map _ _));
 }
