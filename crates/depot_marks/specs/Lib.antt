@@ -1,0 +1,6 @@
+pub mod Closings
+pub mod Numbers
+pub mod Missed
+pub mod FeedMarks
+pub mod MarkBooks
+pub mod Below

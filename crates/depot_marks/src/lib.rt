@@ -1,0 +1,15 @@
+//! Marks: whether more rows of a partition may come, and whether all that were expected came.
+//!
+//! A book keeps of each feed what its deliveries told, so that the mark of a raw partition is told
+//! without a pass over them.
+#![tactic(auto)]
+
+mod below;
+mod book;
+mod closings;
+mod feed;
+mod missed;
+mod numbers;
+
+pub use below::raw_keys_below;
+pub use book::MarkBook;
