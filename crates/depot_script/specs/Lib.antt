@@ -3,4 +3,5 @@ pub mod CommandValues
 pub mod Faults
 pub mod Commands
 pub mod Values
+pub mod Names
 pub mod Texts

@@ -13,4 +13,6 @@ mod descriptions;
 #[cfg(test)]
 mod lines;
 #[cfg(test)]
+mod listings;
+#[cfg(test)]
 mod requests;
