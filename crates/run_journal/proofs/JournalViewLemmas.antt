@@ -2,30 +2,18 @@
 use Rattle.std.proofs.Common.{◌≡◌, ℕ, suc, ◌+◌, List, [], ◌∷◌, ◌++◌, length, length-append, refl}
 use Rattle.std.proofs.Common.{ap, arith}
 use Rattle.std.proofs.Common.{inl, inr, map, ◌∙◌}
-use Rattle.std.specs.Prelude.{None, Some, Option, false, is_some}
+use Rattle.std.specs.Prelude.{is_some}
 use Rattle.std.specs.List.{list_any}
-use Rattle.std.proofs.lemmas.Bool.{both_ways, cases_Bool}
+use Rattle.std.proofs.lemmas.Bool.{cases_Bool}
 use Rattle.std.proofs.lemmas.List.{map-append}
 use Rattle.desc_types.specs.Deliveries.{DeliveryOf}
 use Rattle.desc_types.specs.declared.table.Key.{Key}
 use Rattle.view_meaning.specs.declared.journal.Entry.TheVariants as entry
-use Rattle.view_meaning.specs.Journal.{accepted, is_same}
+use Rattle.view_meaning.specs.Journal.{is_same}
 use Rattle.raw_load.specs.Books.{LoadOf, RawBookOf, deliveries_of, place_in}
 use Rattle.run_journal.specs.declared.step.Step.{Step}
 use Rattle.run_journal.specs.declared.step.Step.TheVariants.{Load, Install}
 use Rattle.run_journal.specs.JournalView.{AreSteps, entries_of, loads_in}
-
--- the accepted deliveries are those of the loads
-pub accepted-entries_of : (steps : List Step) (deliveries : List DeliveryOf)
-    → loads_in steps ≡ length deliveries
-    → accepted (entries_of steps deliveries) ≡ deliveries
-accepted-entries_of [] [] loads = refl
-accepted-entries_of [] (delivery ∷ later) loads = absurd (omega (arith, loads))
-accepted-entries_of (Load ∷ steps) [] loads = absurd (omega (arith, loads))
-accepted-entries_of (Load ∷ steps) (delivery ∷ later) loads =
-    ap (λ rest. delivery ∷ rest) (accepted-entries_of steps later (omega (arith, loads)))
-accepted-entries_of (Install key at ∷ steps) deliveries loads =
-    accepted-entries_of steps deliveries loads
 
 -- there is an entry for each step
 pub length-entries_of : (steps : List Step) (deliveries : List DeliveryOf)
@@ -117,8 +105,3 @@ is_some-place_in (load ∷ later) delivery =
       | inl same ↦ rw same refl
       | inr other ↦ rw other (is_some-place_in later delivery)
     ]
-
--- a place that is not there is none
-pub None-is_some : {X : Type 0} (value : Option X) → is_some value ≡ false → value ≡ None
-None-is_some None none = refl
-None-is_some (Some x) none = absurd (both_ways (is_some (Some x)) none refl)

@@ -29,7 +29,7 @@ kept_rows-raw : (desc : DescOf) (journal : JournalOf) (key : Key)
     → Tells desc journal → is_raw (slice_get desc.tables key.table) ≡ true
     → kept_rows desc journal key ≡ latest_content desc journal.entries key
 kept_rows-raw desc journal key tells raw =
-    rw raw (ap rows_of (tells.raw key raw)
+    rw raw (ap rows_of (tells.raw.kept key raw)
     ∙ ap (λ (all : List DeliveryOf). rows_of (loads_kept desc key [] all)) tells.loads)
     ∙ sym (latest_content-raw desc journal.entries key raw)
 

@@ -1,5 +1,9 @@
 pub mod KnownLemmas
+pub mod SameKeysLemmas
 pub mod JournalViewLemmas
+pub mod TouchedLemmas
+pub mod InstalledLemmas
 pub mod KeptLemmas
 pub mod KeptRowsLemmas
+pub mod SettledLemmas
 pub mod DrainingLemmas

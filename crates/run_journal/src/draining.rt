@@ -1,7 +1,7 @@
 //! A drain: it computes each partition of a view that is not settled.
 
-ghost use Rattle.std.specs.Prelude.{◌≡◌, ◌≤◌, OnErr, OnOk, false, length, slice_get};
-ghost use Rattle.view_meaning.specs.Drains.{drained};
+ghost use Rattle.std.specs.Prelude.{◌≡◌, ◌≤◌, IfOk, OnErr, OnOk, false, length, slice_get};
+ghost use Rattle.view_meaning.specs.Drains.{drained, unsettled};
 ghost use Rattle.view_meaning.specs.Versions.{is_raw};
 ghost use Rattle.run_journal.specs.KeptJournals.{DrainsSome, Installs, IsKept};
 ghost use Rattle.run_journal.specs.KeptVersions.{latest_in, number_in};
@@ -10,13 +10,14 @@ use crate::computing::compute;
 use crate::journal::Journal;
 use depot_cell::Memory;
 use desc_types::{AcceptedDesc, Key};
+use stale_test::reached_keys;
 use std::alloc::Global;
 use std::sync::Arc;
-use view_meaning::reached_keys;
 
 /// Installs each partition of a view that is not settled, in order of key. These are the ones that
-/// the deliveries since the last drain reach. Each is computed from the kept rows of its sources,
-/// so it costs what these hold. Without memory the first of them may be installed.
+/// rest on a raw partition that gained rows since the last drain. Each is computed from the kept
+/// rows of its sources, so it costs what these hold. Without memory the first of them may be
+/// installed.
 pub fn drain(alloc: Global, served: &AcceptedDesc, journal: &mut Journal) -> Result<(), Memory>
     requires kept { IsKept served.now.desc journal.old }
     ensures ok { OnOk result (journal.new.entries ≡ drained served.now.desc journal.old.entries) }
@@ -24,7 +25,7 @@ pub fn drain(alloc: Global, served: &AcceptedDesc, journal: &mut Journal) -> Res
     ensures err { OnErr result
         (DrainsSome served.now.desc journal.old.entries journal.new.entries) }
 {
-    let keys = reached_keys(alloc, &served.desc, journal.fresh())?;
+    let keys = unsettled_keys(alloc, served, journal)?;
     'keys: for key in &keys {
         install(alloc, served, journal, *key)?;
     }
@@ -32,8 +33,22 @@ pub fn drain(alloc: Global, served: &AcceptedDesc, journal: &mut Journal) -> Res
     Ok(())
 }
 
+/// The partitions of views that are not settled, in order of key.
+fn unsettled_keys(
+    alloc: Global,
+    served: &AcceptedDesc,
+    journal: &Journal,
+) -> Result<Vec<Key>, Memory>
+    requires kept { IsKept served.now.desc journal.now }
+    ensures exact { IfOk result (λ keys.
+        keys.items ≡ unsettled served.now.desc journal.now.entries) }
+{
+    let gained = journal.touched_keys(alloc)?;
+    reached_keys(alloc, &served.desc, &gained)
+}
+
 /// Computes a view's partition from the kept rows of its sources, and installs it. Without memory
-/// nothing changes.
+/// the journal tells what it told before.
 fn install(
     alloc: Global,
     served: &AcceptedDesc,
@@ -43,7 +58,7 @@ fn install(
     requires view { is_raw (slice_get served.now.desc.tables key.table) ≡ false }
     requires few { number_in (latest_in journal.old.versions key) ≤ length journal.old.entries }
     ensures ok { OnOk result (Installs served.now.desc journal.old journal.new key) }
-    ensures err { OnErr result (journal.new ≡ journal.old) }
+    ensures err { OnErr result (journal.new.entries ≡ journal.old.entries) }
 {
     let rows = compute(alloc, served, journal, key)?;
     journal.install(key, Arc::new(alloc, rows)?)

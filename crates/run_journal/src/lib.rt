@@ -11,6 +11,7 @@ mod draining;
 mod journal;
 mod sources;
 mod step;
+mod touched;
 mod version;
 mod versions;
 

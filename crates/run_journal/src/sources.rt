@@ -100,7 +100,7 @@ fn push_kept<'a>(
 }
 
 /// Whether there is a table with this number and it is raw.
-fn is_raw_table(served: &AcceptedDesc, table: u16) -> bool
+pub(crate) fn is_raw_table(served: &AcceptedDesc, table: u16) -> bool
     ensures exact { result ≡ is_raw (slice_get served.now.desc.tables table) }
 {
     match served.desc.tables.get(usize::from(table)) {

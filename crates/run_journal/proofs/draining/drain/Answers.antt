@@ -1,18 +1,15 @@
 -- Each key is installed, and then all is settled.
-use Rattle.std.proofs.Common.{take_all, arith, refl, sym, ◌∙◌, ap, get_or, List, ◌≡◌, length, take}
+use Rattle.std.proofs.Common.{take_all, arith, sym, ◌∙◌, ap, get_or, List, ◌≡◌, length, take}
 use Rattle.std.specs.Prelude.{fold}
 use Rattle.desc_types.specs.declared.table.Key.{Key}
 use Rattle.view_meaning.specs.declared.journal.Entry.{Entry}
-use Rattle.view_meaning.specs.Drains.{drained, unsettled, with_install}
+use Rattle.view_meaning.specs.Drains.{drained, with_install}
 use Rattle.view_meaning.specs.LegalJournals.{MayInstall}
-use Rattle.run_journal.proofs.DrainingLemmas.{DrainsSome-take, MayInstall-reached, Tells-next}
-use Rattle.run_journal.proofs.DrainingLemmas.{is_raw-MayInstall, keys-unsettled}
-use Rattle.run_journal.proofs.KeptLemmas.{IsKept-drained, fold-take-push, number_in-le}
+use Rattle.run_journal.proofs.DrainingLemmas.{DrainsSome-take, IsKept-drained, MayInstall-at}
+use Rattle.run_journal.proofs.DrainingLemmas.{Tells-next, fold-take-push, is_raw-MayInstall}
+use Rattle.run_journal.proofs.InstalledLemmas.{number_in-le}
 use Rattle.run_journal.proofs.KnownLemmas.{OnErr-each}
 use Rattle.run_journal.proofs.draining.drain.Goals as goal
-
-pub keys-init : goal.keys-init
-keys-init c = record { installed = refl; tells = c.requires.kept.tells }
 
 -- the next key may be installed
 may : (c : goal.After-install-arg-in-keys-1)
@@ -20,10 +17,11 @@ may : (c : goal.After-install-arg-in-keys-1)
     (get_or c.deref-key-items.result.now c.keys.key-index (record { table = 0; part = 0 }))
     (length c.keys.journal.entries)
 may c =
-    MayInstall-reached c.args.served.now.desc c.args.journal.now c.keys.journal
-    c.deref-key-items.result.now _ _ c.keys.key-index (record { table = 0; part = 0 })
-    c.args.served.now.is_served.earlier c.requires.kept c.deref-key-items.ensures.value
-    c.in_ok-keys.ensures.exact c.fresh.ensures.exact c.keys.invariant.installed c.keys-test.true
+    MayInstall-at c.args.served.now.desc c.args.journal.now c.keys.journal
+    c.deref-key-items.result.now c.keys.key-index (record { table = 0; part = 0 })
+    c.args.served.now.is_served.earlier c.requires.kept
+    (c.deref-key-items.ensures.value ∙ c.in_ok-keys.ensures.exact)
+    c.keys.invariant.installed c.keys-test.true
 
 pub install-requires : goal.install-requires
 install-requires c = record {
@@ -37,10 +35,11 @@ keys-preserved c =
     (record { table = 0; part = 0 }) in
     let may : MayInstall c.args.served.now.desc c.keys.journal.entries key
     (length c.keys.journal.entries) =
-    MayInstall-reached c.args.served.now.desc c.args.journal.now c.keys.journal
-    c.deref-key-items.result.now _ _ c.keys.key-index (record { table = 0; part = 0 })
-    c.args.served.now.is_served.earlier c.requires.kept c.deref-key-items.ensures.value
-    c.in_ok-keys.ensures.exact c.fresh.ensures.exact c.keys.invariant.installed c.keys-test.true in
+    MayInstall-at c.args.served.now.desc c.args.journal.now c.keys.journal
+    c.deref-key-items.result.now c.keys.key-index (record { table = 0; part = 0 })
+    c.args.served.now.is_served.earlier c.requires.kept
+    (c.deref-key-items.ensures.value ∙ c.in_ok-keys.ensures.exact)
+    c.keys.invariant.installed c.keys-test.true in
     record {
       installed = c.in_ok-install.ensures.ok.entries
           ∙ ap (λ (entries : List Entry). with_install entries key) c.keys.invariant.installed
@@ -58,29 +57,22 @@ returns-in_err-install-clause-err c =
     (OnErr-each c.from_residual-in_err-install.result
     (DrainsSome-take c.args.served.now.desc c.args.journal.now.entries c.keys.journal.entries
     c.deref-key-items.result.now c.keys.key-index c.keys.invariant.installed
-    (keys-unsettled c.args.served.now.desc c.args.journal.now _ _ _
-    c.args.served.now.is_served.earlier c.requires.kept c.deref-key-items.ensures.value
-    c.in_ok-keys.ensures.exact c.fresh.ensures.exact)))
+    (c.deref-key-items.ensures.value ∙ c.in_ok-keys.ensures.exact)))
 
 pub returns : goal.returns
 returns c =
     let keys : List Key = c.deref-key-items.result.now in
     let all : take c.keys.key-index keys ≡ keys =
     take_all c.keys.key-index keys (omega (arith, c.keys-test.false)) in
-    let unsettled_keys : keys ≡ unsettled c.args.served.now.desc c.args.journal.now.entries =
-    keys-unsettled c.args.served.now.desc c.args.journal.now _ _ _
-    c.args.served.now.is_served.earlier c.requires.kept c.deref-key-items.ensures.value
-    c.in_ok-keys.ensures.exact c.fresh.ensures.exact in
     let drains : c.keys.journal.entries ≡ drained c.args.served.now.desc
     c.args.journal.now.entries =
     c.keys.invariant.installed
-    ∙ ap (fold with_install c.args.journal.now.entries) (all ∙ unsettled_keys) in
+    ∙ ap (fold with_install c.args.journal.now.entries)
+    (all ∙ c.deref-key-items.ensures.value ∙ c.in_ok-keys.ensures.exact) in
     record {
-      ok = c.settle.ensures.entries ∙ drains;
+      ok = c.settle.ensures.settled.entries ∙ drains;
       kept = IsKept-drained c.args.served.now.desc c.args.journal.now c.keys.journal
           c.settle.new.self c.args.served.now.is_served.earlier c.requires.kept
-          c.keys.invariant.tells drains
-          c.settle.ensures.entries c.settle.ensures.fresh c.settle.ensures.versions
-          c.settle.ensures.raw;
+          c.keys.invariant.tells drains c.settle.ensures.settled;
       err = tt;
     }
