@@ -1,6 +1,6 @@
 -- A reading that serves is accepted: `IsAccepted-reading`. Each line asks for what fits the
 -- description, so each step does, and so does the journal.
-use Rattle.std.proofs.Common.{◌≡◌, ℕ, zero, suc, ◌<◌, ◌≤◌, ◌^◌, List, [], ◌∷◌, length}
+use Rattle.std.proofs.Common.{◌≡◌, ℕ, zero, suc, ◌<◌, ◌≤◌, List, [], ◌∷◌, length}
 use Rattle.std.proofs.Common.{Bool, true, false, refl, subst, inl, inr, arith}
 use Rattle.std.specs.Prelude.{Option, Some, None, Result, Ok, Err, All, ⊤, if◌then◌else◌}
 use Rattle.std.specs.Prelude.{is_none, nat_lt, unwrap_or}
@@ -23,7 +23,6 @@ use Rattle.table_desc.proofs.DraftLemmas.{drafted-accepted}
 use Rattle.desc_types.proofs.ServedLemmas.{accepted-served}
 use Rattle.view_meaning.specs.declared.journal.Entry.{Entry}
 use Rattle.view_meaning.specs.declared.journal.Entry.TheVariants as entry
-use Rattle.view_meaning.specs.declared.request.Item.{Item}
 use Rattle.view_meaning.specs.Journal.{FitsDelivery, FitsJournal, is_repeat}
 use Rattle.view_meaning.proofs.FitLemmas.{FitsJournal-drained, FitsJournal-push}
 use Rattle.query_pin.specs.declared.request.RequestFault.{RequestFault}
@@ -53,30 +52,9 @@ use Rattle.depot_cli.specs.Reading.{Does, body_due, body_step, line_due, line_st
 use Rattle.depot_cli.specs.Reading.{next_body, next_line, opening, sized_step}
 use Rattle.depot_cli.specs.Reading.{script_at, session, session_at, session_from}
 use Rattle.depot_cli.specs.Reading.{step_of}
+use Rattle.depot_cli.specs.ScriptCalls.{FitsCommand, FitsLine, FitsNumbers}
 use Rattle.depot_cli.specs.SerialJournal.{journal_after, serial}
 use Rattle.depot_cli.specs.Acceptance.{HasAcceptedReadings, IsAccepted}
-
--- the numbers of a delivery: its feed is one of the description, and the others are in their ranges
-record FitsNumbers (desc : DescOf) (feed number closes : ℕ) : Type 0 where
-  pub of_feed : feed < length desc.feeds
-  pub numbered : number < 2 ^ 32
-  pub in_time : closes ≤ END
-
--- a command for a delivery fits if its numbers do, and so does each other one
-abbrev FitsCommand : DescOf → CommandOf → Type 0
-FitsCommand desc command.Nothing = ⊤
-FitsCommand desc (command.Deliver feed number closes size) = FitsNumbers desc feed number closes
-FitsCommand desc command.Drain = ⊤
-FitsCommand desc (command.Query items) = ⊤
-FitsCommand desc (command.Marks items) = ⊤
-FitsCommand desc (command.Aside feed) = ⊤
-FitsCommand desc command.Reclaim = ⊤
-FitsCommand desc command.End = ⊤
-
--- what was read of a line fits if its command does
-abbrev FitsLine : DescOf → Result CommandOf CommandFault → Type 0
-FitsLine desc (Ok read) = FitsCommand desc read
-FitsLine desc (Err cause) = ⊤
 
 -- a delivery that is to be loaded fits, and so does each other item
 abbrev FitsWork : DescOf → Work → Type 0
@@ -85,6 +63,8 @@ FitsWork desc (work.Refused cause) = ⊤
 FitsWork desc (work.Load delivery) = FitsDelivery desc delivery
 FitsWork desc work.Drain = ⊤
 FitsWork desc (work.Query items) = ⊤
+FitsWork desc (work.Marks items) = ⊤
+FitsWork desc (work.Aside feed) = ⊤
 
 -- what a step does fits
 abbrev FitsStep : DescOf → Step → Type 0
@@ -146,19 +126,25 @@ FitsNumbers-said desc feed number closes there = record {
   in_time = number_said-le END closes;
 }
 
+-- the feed of a command against which no test speaks is there
+has_feed : (desc : DescOf) (command : WrittenCommandOf)
+    → first_fault (command_tests desc command) ≡ None → lacks_feed desc command ≡ false
+has_feed desc command none =
+    first_fault-third (has_bad_level command) (has_bad_number command) (lacks_feed desc command)
+    fault.BadWord fault.BadNumber fault.NoFeed ((lacks_table desc command, fault.NoTable) ∷ []) none
+
 -- a command against which no test speaks fits
 FitsCommand-said : (desc : DescOf) (command : WrittenCommandOf)
     → first_fault (command_tests desc command) ≡ None
     → FitsCommand desc (command_said desc command)
 FitsCommand-said desc (written.Deliver feed number closes size) none =
-    let its_command = written.Deliver feed number closes size in
-    FitsNumbers-said desc feed number closes (first_fault-third (has_bad_level its_command)
-    (has_bad_number its_command) (lacks_feed desc its_command) fault.BadWord fault.BadNumber
-    fault.NoFeed ((lacks_table desc its_command, fault.NoTable) ∷ []) none)
+    FitsNumbers-said desc feed number closes
+    (has_feed desc (written.Deliver feed number closes size) none)
 FitsCommand-said desc written.Drain none = tt
 FitsCommand-said desc (written.Query items) none = tt
 FitsCommand-said desc (written.Marks item) none = tt
-FitsCommand-said desc (written.Aside feed) none = tt
+FitsCommand-said desc (written.Aside feed) none =
+    feed_said-lt desc feed (has_feed desc (written.Aside feed) none)
 FitsCommand-said desc written.Reclaim none = tt
 FitsCommand-said desc written.End none = tt
 
@@ -184,7 +170,7 @@ FitsLine-if desc true first second fits others = fits
 FitsLine-if desc false first second fits others = others
 
 -- what was read of a line's words fits
-FitsLine-words : (desc : DescOf) (line : List (List ℕ)) → FitsLine desc (command_of_words desc line)
+pub FitsLine-words : (desc : DescOf) (line : List (List ℕ)) → FitsLine desc (command_of_words desc line)
 FitsLine-words desc [] = tt
 FitsLine-words desc (first ∷ others) =
     FitsLine-if desc (begins_comment first) (Ok command.Nothing) _ tt
@@ -208,11 +194,11 @@ FitsWork-loading desc feed number closes body_ (Ok rows) accepted fits read =
     }
 FitsWork-loading desc feed number closes body_ (Err bad) accepted fits read = tt
 
--- a query is no delivery
-FitsWork-asking : (desc : DescOf) (items : List Item) (cause : Option RequestFault)
-    → FitsWork desc (asking items cause)
-FitsWork-asking desc items None = tt
-FitsWork-asking desc items (Some cause) = tt
+-- what a request asks for fits if that does
+FitsWork-asking : (desc : DescOf) (its_work : Work) (cause : Option RequestFault)
+    → FitsWork desc its_work → FitsWork desc (asking its_work cause)
+FitsWork-asking desc its_work None fits = fits
+FitsWork-asking desc its_work (Some cause) fits = tt
 
 -- what a command that fits asks for fits
 FitsWork-asked : (desc : DescOf) (its_command : CommandOf) (body_ : List ℕ)
@@ -223,8 +209,9 @@ FitsWork-asked desc (command.Deliver feed number closes size) body_ accepted fit
     FitsWork-loading desc feed number closes body_ (rows_of desc feed body_) accepted fits refl
 FitsWork-asked desc command.Drain body_ accepted fits = tt
 FitsWork-asked desc (command.Query items) body_ accepted fits =
-    FitsWork-asking desc items (request_fault desc items)
-FitsWork-asked desc (command.Marks items) body_ accepted fits = tt
+    FitsWork-asking desc (work.Query items) (request_fault desc items) tt
+FitsWork-asked desc (command.Marks items) body_ accepted fits =
+    FitsWork-asking desc (work.Marks items) (request_fault desc items) tt
 FitsWork-asked desc (command.Aside feed) body_ accepted fits = tt
 FitsWork-asked desc command.Reclaim body_ accepted fits = tt
 FitsWork-asked desc command.End body_ accepted fits = tt
@@ -308,6 +295,8 @@ FitsJournal-journal_after desc journal (work.Load delivery) fits also =
     ]
 FitsJournal-journal_after desc journal work.Drain fits also = FitsJournal-drained desc journal fits
 FitsJournal-journal_after desc journal (work.Query items) fits also = fits
+FitsJournal-journal_after desc journal (work.Marks items) fits also = fits
+FitsJournal-journal_after desc journal (work.Aside feed) fits also = fits
 
 -- so do all items
 FitsJournal-serial : (desc : DescOf) (journal : List Entry) (items : List Work)

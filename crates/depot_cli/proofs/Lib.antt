@@ -4,7 +4,8 @@ pub mod DueLemmas
 pub mod EndLemmas
 pub mod LineLemmas
 pub mod OpeningLemmas
-pub mod ReplyLemmas
+pub mod PartLemmas
+pub mod PartListLemmas
 pub mod ReplyListLemmas
 pub mod RoomLemmas
 pub mod RunLemmas

@@ -26,6 +26,8 @@ IsLegal-journal_after desc journal (work.Load delivery) earlier legal =
 IsLegal-journal_after desc journal work.Drain earlier legal =
     IsLegal-drained desc journal earlier legal
 IsLegal-journal_after desc journal (work.Query items) earlier legal = legal
+IsLegal-journal_after desc journal (work.Marks items) earlier legal = legal
+IsLegal-journal_after desc journal (work.Aside feed) earlier legal = legal
 
 -- so do all items
 pub IsLegal-serial : (desc : DescOf) (journal : List Entry) (items : List Work)

@@ -1,15 +1,18 @@
--- Whole answers to queries.
-use Rattle.std.specs.Prelude.{ℕ, ◌<◌, ◌≤◌, List, [], ◌++◌, Option, Some, None, length, flat_map}
-use Rattle.std.specs.Prelude.{slice_get}
+-- Whole answers to queries, and the partitions that they count.
+use Rattle.std.specs.Prelude.{ℕ, ◌≡◌, ◌<◌, ◌≤◌, List, ◌++◌, filter, flat_map, length, map}
 use Rattle.std.specs.List.{All}
 use Rattle.partition_map.specs.Time.{END}
+use Rattle.depot_script.specs.Names.{table_name}
 use Rattle.depot_script.specs.Texts.{answer_text, part_text, rows_text}
-use Rattle.desc_types.specs.declared.table.Feed.{Feed}
+use Rattle.desc_types.specs.declared.table.Key.{Key}
 use Rattle.desc_types.specs.Descriptions.{DescOf}
-use Rattle.desc_types.specs.Tables.{TableOf}
 use Rattle.query_pin.specs.Requests.{PARTS_LIMIT, count_all}
+use Rattle.view_meaning.specs.declared.journal.Entry.{Entry}
 use Rattle.view_meaning.specs.declared.request.Item.{Item}
-use Rattle.view_meaning.specs.Shown.{ShownPart}
+use Rattle.view_meaning.specs.declared.request.Mark.{Mark}
+use Rattle.view_meaning.specs.declared.request.MarkItem.{MarkItem}
+use Rattle.view_meaning.specs.Marks.{mark_of}
+use Rattle.view_meaning.specs.Shown.{ShownPart, has_level, parts_asked}
 
 -- an item's table is there, and its ticks are in order and in time
 pub record IsFine (desc : DescOf) (item : Item) : Type 0 where
@@ -22,24 +25,6 @@ pub record AreFine (desc : DescOf) (items : List Item) : Type 0 where
   pub each : All (IsFine desc) items
   pub few : count_all desc items ≤ PARTS_LIMIT
 
--- the name of a feed, and nothing if there is none
-abbrev pub name_of_feed : Option Feed → List ℕ
-name_of_feed None = []
-name_of_feed (Some feed) = feed.name
-
--- the name of a table, and nothing if there is none
-abbrev pub name_of : Option TableOf → List ℕ
-name_of None = []
-name_of (Some table) = table.name
-
--- the name of the feed with this number
-abbrev pub feed_name : DescOf → ℕ → List ℕ
-feed_name desc feed = name_of_feed (slice_get desc.feeds feed)
-
--- the name of the table with this number
-abbrev pub table_name : DescOf → ℕ → List ℕ
-table_name desc table = name_of (slice_get desc.tables table)
-
 -- a partition that is shown, with its rows
 abbrev pub shown_text : DescOf → ShownPart → List ℕ
 shown_text desc shown =
@@ -50,3 +35,16 @@ shown_text desc shown =
 abbrev pub whole_answer : DescOf → (place : ℕ) → List ShownPart → List ℕ
 whole_answer desc place parts =
     answer_text place (length parts) ++ flat_map (shown_text desc) parts
+
+-- a partition with its mark after a journal
+abbrev pub marked : DescOf → List Entry → Key → MarkItem
+marked desc journal key = record { key = key; mark = mark_of desc journal key }
+
+-- the mark that is told of a partition is the one that it has after a journal
+abbrev pub IsMarked : DescOf → List Entry → MarkItem → Type 0
+IsMarked desc journal item = item.mark ≡ mark_of desc journal item.key
+
+-- the partitions that an item asks for, without those whose mark is below a level, with their marks
+abbrev pub marks_from : DescOf → List Entry → (level : Mark) → Item → List MarkItem
+marks_from desc journal level item =
+    map (marked desc journal) (filter (has_level desc journal level) (parts_asked desc item))

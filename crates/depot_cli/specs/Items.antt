@@ -1,7 +1,6 @@
 -- What an item of a script asks for, by its line and its body.
-use Rattle.std.specs.Prelude.{ℕ, List, Option, Some, None, Bool, true, false, nat_lt, Result}
-use Rattle.std.specs.Prelude.{Ok, Err, codes, if◌then◌else◌}
-use Rattle.std.specs.List.{list_any}
+use Rattle.std.specs.Prelude.{ℕ, List, Option, Some, None, Bool, true, false, Result, Ok, Err}
+use Rattle.std.specs.Prelude.{codes, if◌then◌else◌}
 use Rattle.depot_script.specs.declared.fault.CommandFault.{CommandFault}
 use Rattle.depot_script.specs.CommandValues.{CommandOf, Nothing, Deliver, Drain, Query, Marks, Aside}
 use Rattle.depot_script.specs.CommandValues.{Reclaim, End}
@@ -13,32 +12,19 @@ use Rattle.feed_csv.specs.Bodies.{cause_text, delivery_of}
 use Rattle.query_pin.specs.declared.request.RequestFault.{RequestFault}
 use Rattle.query_pin.specs.Requests.{request_fault}
 use Rattle.query_pin.specs.Requests as request
-use Rattle.view_meaning.specs.declared.request.Item.{Item}
-use Rattle.view_meaning.specs.declared.request.Mark.{Mark}
-use Rattle.view_meaning.specs.declared.request.Mark.TheVariants.{Open, Closed, Complete}
 use Rattle.depot_cli.specs.declared.script.work.Refusal.{Refusal}
 use Rattle.depot_cli.specs.declared.script.work.Refusal.TheVariants as refusal
 use Rattle.depot_cli.specs.declared.script.work.Work.{Work}
 use Rattle.depot_cli.specs.declared.script.work.Work.TheVariants as work
 
--- whether an item of a query has a level
-abbrev pub is_level : Mark → Bool
-is_level Open = false
-is_level Closed = true
-is_level Complete = true
-
-abbrev pub has_level : Item → Bool
-has_level item = is_level item.level
-
--- whether a command is of a form that is not built yet: it closes, it has a level, or it asks for
--- marks, for rows that were set aside, or to forget
+-- whether a command is of a form that is not built yet: it asks to forget
 abbrev pub is_later : CommandOf → Bool
 is_later Nothing = false
-is_later (Deliver feed number closes size) = nat_lt 0 closes
+is_later (Deliver feed number closes size) = false
 is_later Drain = false
-is_later (Query items) = list_any has_level items
-is_later (Marks items) = true
-is_later (Aside feed) = true
+is_later (Query items) = false
+is_later (Marks items) = false
+is_later (Aside feed) = false
 is_later Reclaim = true
 is_later End = false
 
@@ -52,10 +38,10 @@ abbrev pub loading : Result DeliveryOf BadRecord → Work
 loading (Ok delivery) = work.Load delivery
 loading (Err bad) = work.Refused (refusal.Record bad)
 
--- what a query asks for: an answer, or to be told what is wrong with it
-abbrev pub asking : List Item → Option RequestFault → Work
-asking items None = work.Query items
-asking items (Some fault) = work.Refused (refusal.Request fault)
+-- what a request asks for: what it says, or to be told what is wrong with it
+abbrev pub asking : Work → Option RequestFault → Work
+asking asked None = asked
+asking asked (Some fault) = work.Refused (refusal.Request fault)
 
 -- what a command asks for, with the body after its line: only a delivery has one
 abbrev pub asked : DescOf → CommandOf → (body : List ℕ) → Work
@@ -63,9 +49,9 @@ asked desc Nothing body = work.Nothing
 asked desc (Deliver feed number closes size) body =
     loading (delivery_of desc feed number closes body)
 asked desc Drain body = work.Drain
-asked desc (Query items) body = asking items (request_fault desc items)
-asked desc (Marks items) body = work.Refused refusal.Later
-asked desc (Aside feed) body = work.Refused refusal.Later
+asked desc (Query items) body = asking (work.Query items) (request_fault desc items)
+asked desc (Marks items) body = asking (work.Marks items) (request_fault desc items)
+asked desc (Aside feed) body = work.Aside feed
 asked desc Reclaim body = work.Refused refusal.Later
 asked desc End body = work.Nothing
 

@@ -5,24 +5,18 @@ use Rattle.std.specs.List.{list_any}
 use Rattle.desc_types.specs.Deliveries.{DeliveryOf}
 use Rattle.desc_types.specs.Descriptions.{DescOf}
 use Rattle.view_meaning.specs.declared.journal.Entry.{Entry}
-use Rattle.view_meaning.specs.declared.journal.Loaded.{Loaded}
 use Rattle.view_meaning.specs.Journal.{accepted, is_repeat}
-use Rattle.view_meaning.specs.SetAside.{kept_rows, aside_rows}
-use Rattle.view_meaning.specs.Shown.{shown}
+use Rattle.view_meaning.specs.Loading.{loaded}
+use Rattle.view_meaning.specs.SetAside.{asides}
+use Rattle.view_meaning.specs.Shown.{marks_shown, shown}
 use Rattle.depot_cli.specs.declared.script.work.Work.{Work}
 use Rattle.depot_cli.specs.declared.script.work.Work.TheVariants as work
 use Rattle.depot_cli.specs.SerialJournal.{journal_after}
-use Rattle.depot_script.specs.Texts.{drained_text, loaded_text, refused_text, repeat_text}
+use Rattle.depot_script.specs.Names.{feed_name}
+use Rattle.depot_script.specs.Texts.{asides_text, drained_text, loaded_text, marks_text}
+use Rattle.depot_script.specs.Texts.{refused_text, repeat_text}
 use Rattle.depot_cli.specs.Items.{refusal_record, refusal_text}
-use Rattle.depot_cli.specs.Answers.{feed_name, whole_answer}
-
--- what loading a delivery after a journal does
-abbrev pub loaded : DescOf → List Entry → DeliveryOf → Loaded
-loaded desc journal delivery = record {
-  entry = length journal + 1;
-  kept = length (kept_rows desc (accepted journal) delivery);
-  aside = length (aside_rows desc (accepted journal) delivery);
-}
+use Rattle.depot_cli.specs.Answers.{whole_answer}
 
 -- the reply to a delivery
 abbrev pub load_reply : DescOf → List Entry → DeliveryOf → List ℕ
@@ -40,6 +34,10 @@ reply desc line journal work.Drain =
     drained_text (length (journal_after desc journal work.Drain))
 reply desc line journal (work.Query items) =
     whole_answer desc (length journal) (flat_map (shown desc journal) items)
+reply desc line journal (work.Marks items) =
+    marks_text desc (length journal) (flat_map (marks_shown desc journal) items)
+reply desc line journal (work.Aside feed) =
+    asides_text desc feed (length journal) (asides desc (accepted journal) feed)
 
 -- the replies to items, one a line from this line on, each after the journal that those before it
 -- made
@@ -55,6 +53,8 @@ is_refused (work.Refused _) = true
 is_refused (work.Load _) = false
 is_refused work.Drain = false
 is_refused (work.Query _) = false
+is_refused (work.Marks _) = false
+is_refused (work.Aside _) = false
 
 -- whether a `refused` reply is among those to the items
 abbrev pub has_refused : List Work → Bool

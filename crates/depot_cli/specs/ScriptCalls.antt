@@ -1,5 +1,5 @@
 -- What the calls that read a script answer, by its reading.
-use Rattle.std.specs.Prelude.{ℕ, ◌≡◌, ◌≤◌, ◌<◌, ◌-◌, List, [], Option, Some, None, length, Bool}
+use Rattle.std.specs.Prelude.{ℕ, ◌≡◌, ◌≤◌, ◌<◌, ◌-◌, ◌^◌, List, [], Option, Some, None, length, Bool}
 use Rattle.std.specs.Prelude.{true, false, Result, Ok, Err, ⊤}
 use Rattle.std.specs.Io.KnownBytes.{Appends}
 use Rattle.depot_io.specs.Causes.{Rose}
@@ -11,9 +11,13 @@ use Rattle.depot_cli.specs.declared.run.status.Status.TheVariants as status
 use Rattle.depot_cli.specs.declared.script.work.Work.{Work}
 use Rattle.depot_cli.specs.declared.script.work.Work.TheVariants as work
 use Rattle.query_pin.specs.Requests.{request_fault}
+use Rattle.partition_map.specs.Time.{END}
+use Rattle.depot_script.specs.declared.fault.CommandFault.{CommandFault}
+use Rattle.depot_script.specs.CommandValues.{CommandOf}
+use Rattle.depot_script.specs.CommandValues as command
 use Rattle.desc_types.specs.Descriptions.{DescOf}
 use Rattle.depot_cli.specs.SerialJournal.{journal_after}
-use Rattle.run_journal.specs.KeptJournals.{DrainsSome, JournalOf}
+use Rattle.run_journal.specs.KeptJournals.{DrainsSome, JournalOf, TellsAsBefore}
 use Rattle.table_desc.specs.Drafts.{DraftOf, drafted}
 use Rattle.depot_cli.specs.Reading.{NextLine, NoLine, Unreadable, Line, NextBody, Unfinished, Body}
 use Rattle.depot_cli.specs.Reading.{Opening, OpeningEnd, Go, Broken, Step, Ends, Does, Ended}
@@ -100,13 +104,37 @@ IsScriptCause before now (Err (Input _ _)) = now ≡ before
 IsScriptCause before now (Err Memory) = now ≡ before
 IsScriptCause before now (Ok _) = now ≡ before
 
--- no test speaks against what a query asks for
+-- the numbers of a delivery: its feed is one of the description, and the others are in their ranges
+pub record FitsNumbers (desc : DescOf) (feed number closes : ℕ) : Type 0 where
+  pub of_feed : feed < length desc.feeds
+  pub numbered : number < 2 ^ 32
+  pub in_time : closes ≤ END
+
+-- a command fits if the numbers of its delivery do, and if its feed is one of the description
+abbrev pub FitsCommand : DescOf → CommandOf → Type 0
+FitsCommand desc command.Nothing = ⊤
+FitsCommand desc (command.Deliver feed number closes size) = FitsNumbers desc feed number closes
+FitsCommand desc command.Drain = ⊤
+FitsCommand desc (command.Query items) = ⊤
+FitsCommand desc (command.Marks items) = ⊤
+FitsCommand desc (command.Aside feed) = feed < length desc.feeds
+FitsCommand desc command.Reclaim = ⊤
+FitsCommand desc command.End = ⊤
+
+-- what was read of a line fits if its command does
+abbrev pub FitsLine : DescOf → Result CommandOf CommandFault → Type 0
+FitsLine desc (Ok read) = FitsCommand desc read
+FitsLine desc (Err fault) = ⊤
+
+-- the feed that is spoken of is one of the description, and no test speaks against a request
 abbrev pub IsAnswerable : DescOf → Work → Type 0
 IsAnswerable desc work.Nothing = ⊤
 IsAnswerable desc (work.Refused _) = ⊤
-IsAnswerable desc (work.Load _) = ⊤
+IsAnswerable desc (work.Load delivery) = delivery.feed < length desc.feeds
 IsAnswerable desc work.Drain = ⊤
 IsAnswerable desc (work.Query items) = request_fault desc items ≡ None
+IsAnswerable desc (work.Marks items) = request_fault desc items ≡ None
+IsAnswerable desc (work.Aside feed) = feed < length desc.feeds
 
 -- the status of a script that was not read on
 abbrev pub status_of_fault : ScriptFault → Status
@@ -155,9 +183,10 @@ abbrev pub IsOpened : Opening → (left : Option (List ℕ))
 IsOpened opening left (Ok (draft, taken)) = IsOpening opening taken left (Ok draft)
 IsOpened opening left (Err fault) = IsOpening opening 0 left (Err fault)
 
--- what a command for which there was no memory left of the journal: a drain may have made some of
--- its installs, and each other one changed nothing
+-- what a command for which there was no memory left of the journal: a delivery may have taken room
+-- in it, a drain may have made some of its installs, and each other one changed nothing
 abbrev pub IsCutShort : DescOf → (before now : JournalOf) → Work → Type 0
+IsCutShort desc before now (work.Load _) = TellsAsBefore desc before now
 IsCutShort desc before now work.Drain = DrainsSome desc before.entries now.entries
 IsCutShort desc before now _ = now ≡ before
 

@@ -19,6 +19,8 @@ journal_after desc journal (work.Load delivery) =
     if is_repeat journal delivery then journal else journal ++ entry.Load delivery ∷ []
 journal_after desc journal work.Drain = drained desc journal
 journal_after desc journal (work.Query _) = journal
+journal_after desc journal (work.Marks _) = journal
+journal_after desc journal (work.Aside _) = journal
 
 -- the journal after items, from this one on
 abbrev pub serial : DescOf → List Entry → List Work → List Entry

@@ -4,7 +4,6 @@ pub mod work;
 
 ghost use Rattle.std.specs.Prelude.{◌≡◌, ◌+◌, ◌≤◌, ◌<◌, length, IfSome, IfOk, IfErr, OnOk, OnSome};
 ghost use Rattle.std.specs.Prelude.{Ok, true};
-ghost use Rattle.std.specs.List.{list_any};
 ghost use Rattle.depot_io.specs.Lines.{LIMIT, line_take};
 ghost use Rattle.depot_io.specs.Reading.{ReadsOn};
 ghost use Rattle.desc_lines.specs.Words.{is_go, words};
@@ -13,13 +12,14 @@ ghost use Rattle.depot_script.specs.Faults.{BODY_LIMIT};
 ghost use Rattle.depot_script.specs.Values.{command_value, read_value};
 ghost use Rattle.query_pin.specs.Requests.{request_fault};
 ghost use Rattle.feed_csv.specs.Bodies.{delivery_of};
-ghost use Rattle.depot_cli.specs.Items.{asked, asking, has_level, is_end, is_later, loading};
-ghost use Rattle.depot_cli.specs.Items.{work_of};
+ghost use Rattle.depot_cli.specs.declared.script.work.Work.TheVariants as work;
+ghost use Rattle.depot_cli.specs.Items.{asked, asking, is_end, is_later, loading, work_of};
 ghost use Rattle.depot_cli.specs.Reading.{line_due, next_line, next_body};
 ghost use Rattle.depot_cli.specs.Reading.{step_of, opening};
 ghost use Rattle.depot_cli.specs.Runs.{EndsSession};
-ghost use Rattle.depot_cli.specs.ScriptCalls.{status_of_fault, IsAnswerable, IsNextLine};
-ghost use Rattle.depot_cli.specs.ScriptCalls.{IsNextBody, IsOpening, IsStep, IsScriptCause};
+ghost use Rattle.depot_cli.specs.ScriptCalls.{status_of_fault, FitsCommand, FitsLine, FitsNumbers};
+ghost use Rattle.depot_cli.specs.ScriptCalls.{IsAnswerable, IsNextBody, IsNextLine, IsOpening};
+ghost use Rattle.depot_cli.specs.ScriptCalls.{IsScriptCause, IsStep};
 
 use crate::run::status::InputEnd;
 use crate::script::work::{Refusal, Work};
@@ -32,7 +32,6 @@ use feed_csv::{DeliveryFault, read_delivery};
 use query_pin::{Request, check_request};
 use std::alloc::Global;
 use table_desc::Draft;
-use view_meaning::{Item, Mark};
 
 /// Why a script was not read on.
 #[derive(Clone, Copy, Debug, PartialEq, Eq, Drop)]
@@ -130,6 +129,7 @@ fn read_line(
     ensures command { IfOk result (λ read.
         read_value read.0 ≡ line_command served.now.desc line.now) }
     ensures size { IfOk result (λ read. read.1 ≡ body_size line.now) }
+    ensures fits { IfOk result (λ read. FitsLine served.now.desc (read_value read.0)) }
 {
     let words = words_of(alloc, line)?;
     Ok((read_command(alloc, served, &words)?, body_size(&words)))
@@ -143,6 +143,7 @@ fn work_of(
     body: &[u8],
 ) -> Result<Work, Memory>
     requires few { length body.now ≤ BODY_LIMIT }
+    requires fits { FitsLine served.now.desc (read_value command) }
     ensures exact { IfOk result (λ work.
         work ≡ work_of served.now.desc (read_value command) body.now) }
     ensures in_range { IfOk result (IsAnswerable served.now.desc) }
@@ -175,29 +176,7 @@ fn is_end(command: &Result<Command, CommandFault>) -> bool
 fn is_later(command: &Command) -> bool
     ensures exact { result ≡ is_later (command_value command.now) }
 {
-    match command {
-        Command::Deliver { closes, .. } => *closes > 0,
-        Command::Query(request) => have_level(&request.items),
-        Command::Marks(_) | Command::Aside { .. } | Command::Reclaim => true,
-        Command::Nothing | Command::Drain | Command::End => false,
-    }
-}
-
-/// Whether some item of a query has a level.
-fn have_level(items: &[Item]) -> bool
-    ensures exact { result ≡ list_any has_level items.now }
-{
-    items.iter().any(|item| has_level(*item))
-}
-
-/// Whether an item of a query has a level.
-fn has_level(item: Item) -> bool
-    ensures exact { result ≡ has_level item }
-{
-    match item.level {
-        Mark::Open => false,
-        Mark::Closed | Mark::Complete => true,
-    }
+    matches!(command, Command::Reclaim)
 }
 
 /// What a command asks for that is built, with the body after its line.
@@ -208,6 +187,7 @@ fn asked(
     body: &[u8],
 ) -> Result<Work, Memory>
     requires few { length body.now ≤ BODY_LIMIT }
+    requires fits { FitsCommand served.now.desc (command_value command) }
     ensures exact { IfOk result (λ work.
         work ≡ asked served.now.desc (command_value command) body.now) }
     ensures in_range { IfOk result (IsAnswerable served.now.desc) }
@@ -222,9 +202,9 @@ fn asked(
         } => loading(alloc, served, feed, number, closes, body),
         Command::Drain => Ok(Work::Drain),
         Command::Query(request) => Ok(asking(served, request)),
-        Command::Marks(_) | Command::Aside { .. } | Command::Reclaim => {
-            Ok(Work::Refused(Refusal::Later))
-        }
+        Command::Marks(request) => Ok(asking_marks(served, request)),
+        Command::Aside { feed } => Ok(Work::Aside(feed)),
+        Command::Reclaim => Ok(Work::Refused(Refusal::Later)),
     }
 }
 
@@ -238,6 +218,7 @@ fn loading(
     body: &[u8],
 ) -> Result<Work, Memory>
     requires few { length body.now ≤ BODY_LIMIT }
+    requires fits { FitsNumbers served.now.desc feed number closes }
     ensures exact { IfOk result (λ work.
         work ≡ loading (delivery_of served.now.desc feed number closes body.now)) }
     ensures in_range { IfOk result (IsAnswerable served.now.desc) }
@@ -251,11 +232,22 @@ fn loading(
 
 /// What a query asks for.
 fn asking(served: &AcceptedDesc, request: Request) -> Work
-    ensures exact { result ≡ asking request (request_fault served.now.desc request) }
+    ensures exact { result ≡ asking (work.Query request) (request_fault served.now.desc request) }
     ensures in_range { IsAnswerable served.now.desc result }
 {
     match check_request(served, &request) {
         Ok(()) => Work::Query(request),
+        Err(fault) => Work::Refused(Refusal::Request(fault)),
+    }
+}
+
+/// What a line that asks for marks asks for.
+fn asking_marks(served: &AcceptedDesc, request: Request) -> Work
+    ensures exact { result ≡ asking (work.Marks request) (request_fault served.now.desc request) }
+    ensures in_range { IsAnswerable served.now.desc result }
+{
+    match check_request(served, &request) {
+        Ok(()) => Work::Marks(request),
         Err(fault) => Work::Refused(Refusal::Request(fault)),
     }
 }

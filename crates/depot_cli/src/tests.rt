@@ -7,6 +7,7 @@
 
 mod ends;
 mod items;
+mod marks;
 mod runs;
 mod slow;
 mod texts;

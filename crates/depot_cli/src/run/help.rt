@@ -20,7 +20,8 @@ Commands:
            its raw tables, and views over them; then read session lines, keep
            what they bring in memory, and reply on standard output
 
-Session lines: deliver F NUMBER 0 BYTES, drain, query T FROM TO, end.
+Session lines: deliver F NUMBER CLOSES BYTES, drain, query T FROM TO [LEVEL],
+marks T FROM TO, aside F, end.
 docs/FORMATS.md tells the description, the session lines and the replies,
 docs/RULES.md the rules behind them; examples/ has a script to begin with.
 

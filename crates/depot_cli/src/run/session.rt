@@ -40,7 +40,10 @@ pub fn serve<S: Source, O: Sink>(
     ensures others { EndsSession result }
     ensures loan { S.loan reader.new.source ≡ S.loan reader.old.source }
 {
-    let mut journal = Journal::new(alloc);
+    let mut journal = match Journal::new(alloc, served) {
+        Ok(journal) => journal,
+        Err(Memory) => return Status::Memory,
+    };
     let status = serve_items(alloc, served, base, &mut journal, reader, sink);
     // The process ends with the run: to give each row back by itself would be a tenth of loading.
     mem::forget(journal);
@@ -125,7 +128,8 @@ fn is_refused(work: &Work) -> bool
 {
     match work {
         Work::Refused(_) => true,
-        Work::Nothing | Work::Load(_) | Work::Drain | Work::Query(_) => false,
+        Work::Nothing | Work::Load(_) | Work::Drain => false,
+        Work::Query(_) | Work::Marks(_) | Work::Aside(_) => false,
     }
 }
 

@@ -31,4 +31,8 @@ pub enum Work {
     Drain,
     /// To answer a query.
     Query(Request),
+    /// To tell the marks of partitions.
+    Marks(Request),
+    /// To tell the rows of a feed that were set aside.
+    Aside(u16),
 }

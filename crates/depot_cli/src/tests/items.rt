@@ -74,7 +74,7 @@ raw s feed g width 1 time at cols at:int\n\
 view v width 10 filter r 0 0 where at >= 0 keep k\ngo\n";
 
 /// First lines of a session, with their bodies, and why they are refused.
-static REFUSED: [(&[u8], &str); 28] = [
+static REFUSED: [(&[u8], &str); 23] = [
     // what the line says
     (b"Drain\n", "bad_word"),
     (b"query r 0 10 open\n", "bad_word"),
@@ -85,12 +85,7 @@ static REFUSED: [(&[u8], &str); 28] = [
     (b"deliver h 0 0 6\nr,1,a\n", "no_feed"),
     (b"query r 0 10 ; t 0 10\n", "no_table"),
     // what is not built yet
-    (b"marks r 0 10\n", "later"),
-    (b"aside f\n", "later"),
     (b"reclaim\n", "later"),
-    (b"query r 0 10 ; r 0 10 closed\n", "later"),
-    (b"query r 0 10 complete\n", "later"),
-    (b"deliver f 0 1 6\nr,1,a\n", "later"),
     // a record of the body
     (b"deliver f 0 0 12\nr,1,a\nv,1,a\n", "record 2 no_table"),
     (b"deliver f 0 0 4\ns,1\n", "record 1 no_table"),
@@ -103,10 +98,10 @@ static REFUSED: [(&[u8], &str); 28] = [
     (b"query r 0 10 ; r 10 0\n", "bad_range"),
     (b"query s 0 65537\n", "too_wide"),
     (b"query s 0 32769 ; s 0 32769\n", "too_wide"),
-    // the line goes first, then what is not built yet, and then the body or the request
+    (b"marks r 10 0\n", "bad_range"),
+    (b"marks s 0 65537\n", "too_wide"),
+    // the line goes first, and then the body or the request
     (b"deliver h 0 1 6\nr,x,a\n", "no_feed"),
-    (b"deliver f 0 1 6\nr,x,a\n", "later"),
-    (b"query r 10 0 closed\n", "later"),
     (b"query s 0 65537 ; r 10 0\n", "bad_range"),
 ];
 

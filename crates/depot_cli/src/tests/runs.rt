@@ -68,15 +68,17 @@ fn other_words_read_and_write_nothing(rt: HostRuntime) -> Result<(), Fail> {
 /// A session with a line of each kind, and an empty text.
 const SCRIPT: &[u8] = b"feed f\nraw r feed f width 10 time at cols at:int k:text\n\
 view v width 10 filter r 0 0 where at >= 0 keep k\ngo\n\
-deliver f 0 0 5\nr,3,\ndeliver f 0 0 0\nreclaim\ndrain\nquery r 0 10\nquery v 0 10\n\nend\nx";
+deliver f 0 0 5\nr,3,\ndeliver f 0 0 0\nreclaim\ndrain\n\
+query r 0 10\nquery v 0 10\nmarks r 0 10\naside f\n\nend\nx";
 
 const REPLIES: &[u8] =
     b"loaded f 0 entry 1 kept 1 aside 0\nrepeat f 0\nrefused 3 later\ndrained at 2\n\
 answer at 2 parts 1\npart r 0 version 1 upto 2 mark open rows 1\n3,\n\
-answer at 2 parts 1\npart v 0 version 1 upto 1 mark open rows 1\n\"\"\n";
+answer at 2 parts 1\npart v 0 version 1 upto 1 mark open rows 1\n\"\"\n\
+marks at 2 parts 1\npart r 0 mark open\nasides f at 2 rows 0\n";
 
-/// The take after `end`: 186 bytes of lines and a body of some bytes stand before it.
-const NEXT: u64 = 188;
+/// The take after `end`: 207 bytes of lines and a body of some bytes stand before it.
+const NEXT: u64 = 209;
 
 /// With memory each kind of line is served, and nothing is taken after `end`.
 #[test]

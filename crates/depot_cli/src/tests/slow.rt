@@ -128,7 +128,8 @@ Zz\n\
 answer at 11 parts 0\n\
 refused 26 bad_range\n\
 refused 27 no_table\n\
-refused 28 later\n";
+marks at 11 parts 1\n\
+part r 0 mark open\n";
 
 #[test]
 fn an_input_may_come_byte_by_byte(rt: HostRuntime) -> Result<(), Fail> {

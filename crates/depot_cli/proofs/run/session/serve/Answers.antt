@@ -1,9 +1,8 @@
--- At the start nothing is kept.
-use Rattle.run_journal.proofs.KeptLemmas.{IsKept-start}
+-- Without memory for the journal nothing is put.
+use Rattle.depot_cli.proofs.RunLemmas.{IsRun-unserved}
 use Rattle.depot_cli.proofs.run.session.serve.Goals as goal
 
-pub serve_items-status-requires-clause-kept : goal.serve_items-status-requires-clause-kept
-serve_items-status-requires-clause-kept g c =
-    IsKept-start c.args.served.now.desc c.new-journal.result c.new-journal.ensures.entries
-    c.new-journal.ensures.fresh c.new-journal.ensures.versions c.new-journal.ensures.loads
-    c.new-journal.ensures.kept
+pub returns-in-Err-clause-run : goal.returns-in-Err-clause-run
+returns-in-Err-clause-run g c =
+    IsRun-unserved c.args.served.now.desc c.args.base (g.O.Sink.bytes_got c.args.sink.now)
+    (g.S.Source.bytes_left c.args.reader.now.source) _ _
