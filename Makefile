@@ -28,11 +28,11 @@ program: needs-rt
 ci: needs-rt
 	.ci/run
 
-# What loading and views cost, against the bars of docs/PERFORMANCE.md. It wants Python 3 and
-# valgrind, and the proved program. The second script runs even if the first misses a bar.
+# What loading, views and marks cost, against the bars of docs/PERFORMANCE.md. It wants Python 3 and
+# valgrind, and the proved program. Each script runs even if one before it misses a bar.
 bench: needs-rt
 	@missed=0; \
-	for script in loading views; do \
+	for script in loading views marks; do \
 	    echo "bench/$$script.py"; \
 	    python3 bench/$$script.py || missed=1; \
 	done; \

@@ -56,18 +56,26 @@ class Session:
     def wanted(self):
         return "".join(self.replies).encode()
 
-    def deliver(self, feed, number, body):
-        """Delivers a body of rows, each of them a line."""
+    def deliver(self, feed, number, body, closes=0, aside=0):
+        """Delivers a body of rows, each of them a line, of which so many come too late."""
         self.length += 1
-        self.lines.append("deliver %s %d 0 %d\n%s" % (feed, number, len(body.encode()), body))
-        self.replies.append("loaded %s %d entry %d kept %d aside 0\n"
-                            % (feed, number, self.length, body.count("\n")))
+        self.lines.append("deliver %s %d %d %d\n%s"
+                          % (feed, number, closes, len(body.encode()), body))
+        self.replies.append("loaded %s %d entry %d kept %d aside %d\n"
+                            % (feed, number, self.length, body.count("\n") - aside, aside))
 
     def drain(self, installs):
         """Drains, with so many partitions to install."""
         self.length += installs
         self.lines.append("drain\n")
         self.replies.append("drained at %d\n" % self.length)
+
+    def marks(self, table, start, end, parts):
+        """Asks for the marks of the partitions between two ticks: number and mark of each."""
+        self.lines.append("marks %s %d %d\n" % (table, start, end))
+        self.replies.append("marks at %d parts %d\n" % (self.length, len(parts)))
+        self.replies.extend("part %s %d mark %s\n" % (table, number, mark)
+                            for number, mark in parts)
 
     def query(self, table, start, end, parts):
         """Asks for the partitions between two ticks: number, version, `upto` and rows of each."""
