@@ -1,11 +1,11 @@
 -- What a book tells: with more room, and as one delivery more is noted; and that it tells the marks.
-use Rattle.std.proofs.Common.{◌≡◌, ◌∙◌, ℕ, ◌+◌, List, [], ◌∷◌, ◌++◌, get_or, refl, sym}
-use Rattle.std.proofs.Common.{arith, inl, inr}
-use Rattle.std.specs.Prelude.{Bool, true, false, not, ◌||◌, ◌&&◌, ◌==◌, Option, Some, None, max}
+use Rattle.std.proofs.Common.{◌≡◌, ◌∙◌, ℕ, ◌+◌, ◌<◌, List, [], ◌∷◌, ◌++◌, length, get_or, refl, sym}
+use Rattle.std.proofs.Common.{ap, arith, inl, inr, map}
+use Rattle.std.specs.Prelude.{All, Bool, true, false, not, ◌||◌, ◌&&◌, ◌==◌, Option, Some, None, max}
 use Rattle.std.specs.Prelude.{IsSomeAnd, is_some, nat_le, slice_get, if◌then◌else◌}
 use Rattle.std.specs.Option.{option_or, unwrap_or}
 use Rattle.std.specs.List.{range_with_len}
-use Rattle.std.proofs.lemmas.Bool.{cases_Bool, eq-eqb, eqb-true}
+use Rattle.std.proofs.lemmas.Bool.{cases_Bool, eq-eqb, eqb-true, false≢true}
 use Rattle.std.proofs.lemmas.Option.{slice_get_cases}
 use Rattle.std.proofs.Math.Bool.{or-false}
 use Rattle.desc_types.specs.declared.table.Key.{Key}
@@ -14,25 +14,29 @@ use Rattle.desc_types.specs.Accepted.{IsAccepted, IsRaw}
 use Rattle.desc_types.specs.Descriptions.{DescOf}
 use Rattle.desc_types.specs.KindValues.{Raw}
 use Rattle.desc_types.specs.Tables.{TableOf}
-use Rattle.partition_map.specs.Partitions.{end_of}
 use Rattle.view_meaning.specs.declared.aside.Aside.{Aside}
 use Rattle.view_meaning.specs.declared.request.Mark.{Mark}
 use Rattle.view_meaning.specs.declared.request.Mark.TheVariants as mark
+use Rattle.view_meaning.specs.Marks.{least}
+use Rattle.view_meaning.specs.Partitions.{key_of}
 use Rattle.view_meaning.specs.Closing.{is_closed_in, is_fed_by, is_for, part_end}
 use Rattle.view_meaning.specs.RawMarks.{greatest, has_all_to, has_number, misses, raw_mark}
 use Rattle.view_meaning.specs.SetAside.{asides_of}
+use Rattle.view_meaning.specs.Versions.{is_raw}
 use Rattle.view_meaning.proofs.ClosingStepLemmas.{greatest-open, greatest-push, has_number-push}
 use Rattle.view_meaning.proofs.ClosedLemmas.{is_closed_in-push}
 use Rattle.view_meaning.proofs.ClosingStepLemmas.{list_any-asides_of, misses-push}
 use Rattle.view_meaning.proofs.ClosingStepLemmas.{number_of}
 use Rattle.view_meaning.proofs.GreatestLemmas.{greatest_of-push, is_for-feed}
-use Rattle.view_meaning.proofs.ListLemmas.{list_all-agree}
+use Rattle.view_meaning.proofs.ListLemmas.{list_all-agree, map-agree}
 use Rattle.depot_marks.specs.declared.feed.FeedMarks.{FeedMarks}
 use Rattle.depot_marks.specs.Closings.{greatest_at}
 use Rattle.depot_marks.specs.Numbers.{is_accepted}
 use Rattle.depot_marks.specs.FeedMarks.{TakesIn, TellsSame, closed_mark, mark_if}
-use Rattle.depot_marks.specs.FeedMarks.{mark_told}
-use Rattle.depot_marks.specs.MarkBooks.{ChangesAt, MarkBookOf, TellsMarks, TellsPart, mark_in}
+use Rattle.depot_marks.specs.FeedMarks.{mark_told, part_mark}
+use Rattle.depot_marks.specs.MarkBooks.{ChangesAt, IsRawPart, MarkBookOf, TellsMarks, TellsPart}
+use Rattle.depot_marks.specs.Runs.{IsPartOf, run_of}
+use Rattle.depot_marks.proofs.RunLemmas.{All-run_of, run_of-All}
 
 -- what follows from what was found, if it has something
 IsSomeAnd-cases : {X Q : Type 0} (P : X → Type 0) (found : Option X) → IsSomeAnd found P
@@ -214,7 +218,7 @@ closed_mark-told desc accepted key marks last tells =
     ) refl
 
 -- the mark of a raw partition is what its feed tells
-pub raw_mark-told : (desc : DescOf) (accepted : List DeliveryOf) (key : Key) (marks : FeedMarks)
+raw_mark-told : (desc : DescOf) (accepted : List DeliveryOf) (key : Key) (marks : FeedMarks)
     → TellsPart desc accepted key marks
     → raw_mark desc accepted key ≡ mark_told marks key (part_end desc key)
 raw_mark-told desc accepted key marks tells =
@@ -233,21 +237,58 @@ raw_mark-told desc accepted key marks tells =
     at_end (Some last) = closed_mark-told desc accepted key marks last tells
 
 -- the mark of a partition of a feed's table is what the book has of the feed
-pub raw_mark-in : (desc : DescOf) (accepted : List DeliveryOf) (key : Key) (table : TableOf)
-    (feed time : ℕ) (book : MarkBookOf) → IsAccepted desc
+part_mark-told : (desc : DescOf) (accepted : List DeliveryOf) (key : Key) (table : TableOf)
+    (feed time : ℕ) (book : MarkBookOf) (marks : FeedMarks)
     → slice_get desc.tables key.table ≡ Some table → table.kind ≡ Raw feed time
-    → TellsMarks desc accepted book
-    → mark_in (slice_get book.feeds feed) key (end_of table.width key.part)
-    ≡ raw_mark desc accepted key
-raw_mark-in desc accepted key table feed time book is found kind tells =
-    let raw : IsRaw desc table.columns feed time =
-    rw kind at (is.each key.table table found).kind in
+    → TellsMarks desc accepted book → slice_get book.feeds feed ≡ Some marks
+    → part_mark marks table.width key ≡ raw_mark desc accepted key
+part_mark-told desc accepted key table feed time book marks found kind tells there =
     let fed : is_fed_by feed (slice_get desc.tables key.table) ≡ true =
     rw (found, kind) (eq-eqb feed feed refl) in
+    let told = raw_mark-told desc accepted key marks (tells.parts feed marks key there fed) in
+    rw (told, found) refl
+
+-- so is the least mark of a run of them
+pub least-told : (desc : DescOf) (accepted : List DeliveryOf) (number first count feed time : ℕ)
+    (table : TableOf) (book : MarkBookOf) (given : Mark) → IsAccepted desc
+    → slice_get desc.tables number ≡ Some table → table.kind ≡ Raw feed time
+    → TellsMarks desc accepted book
+    → ((marks : FeedMarks) → slice_get book.feeds feed ≡ Some marks
+    → given ≡ least (map (part_mark marks table.width) (run_of number first count)))
+    → given ≡ least (map (raw_mark desc accepted) (run_of number first count))
+least-told desc accepted number first count feed time table book given is found kind tells told =
+    let raw : IsRaw desc table.columns feed time = rw kind at (is.each number table found).kind in
     elim (slice_get_cases book.feeds feed).1 [
       | inl there ↦
-          let told = raw_mark-told desc accepted key there.0
-          (tells.parts feed there.0 key there.2 fed) in
-          rw (there.2, told, found) refl
+          let its = part_mark there.0 table.width in
+          told there.0 there.2
+          ∙ ap least (map-agree its (raw_mark desc accepted) (run_of number first count)
+          (run_of-All (λ key. its key ≡ raw_mark desc accepted key) number first count (λ part _ _.
+          part_mark-told desc accepted (key_of number part) table feed time book there.0 found kind
+          tells there.2)))
       | inr past ↦ absurd (omega (arith, past.0, raw.declared, tells.feeds))
     ]
+
+-- the table of a run of raw partitions is a raw one
+pub is_raw-run : (desc : DescOf) (number first count : ℕ)
+    → All (IsRawPart desc) (run_of number first count) → 0 < count
+    → is_raw (slice_get desc.tables number) ≡ true
+is_raw-run desc number first count raw some =
+    (All-run_of (IsRawPart desc) number first count first raw (omega arith) (omega arith)).raw
+
+-- there is such a table
+pub is_raw-within : (tables : List TableOf) (number : ℕ) → is_raw (slice_get tables number) ≡ true
+    → number < length tables
+is_raw-within tables number raw =
+    elim (slice_get_cases tables number).1 [
+      | inl there ↦ there.1
+      | inr past ↦ absurd (false≢true (rw past.1 at raw))
+    ]
+
+-- they are partitions of that table
+pub run_of-raw : (desc : DescOf) (number first count : ℕ) (table : TableOf)
+    → slice_get desc.tables number ≡ Some table → All (IsRawPart desc) (run_of number first count)
+    → All (IsPartOf table.width) (run_of number first count)
+run_of-raw desc number first count table found raw =
+    run_of-All (IsPartOf table.width) number first count (λ part from below.
+    rw found at (All-run_of (IsRawPart desc) number first count part raw from below).part)

@@ -1,16 +1,17 @@
--- The first delivery that closed up to a tick: found by division, and as one more is noted.
+-- The first delivery that closed up to a tick: found by division, as one more is noted, and for
+-- ticks that rise.
 use Rattle.std.proofs.Common.{◌≡◌, ℕ, zero, suc, ◌<◌, ◌≤◌, List, [], ◌∷◌, ◌++◌, length}
 use Rattle.std.proofs.Common.{◌-◌, get_or, refl, sym, arith, inl, inr}
 use Rattle.std.specs.Prelude.{Bool, true, false, Option, Some, None, All, nat_le, nat_lt, is_some}
-use Rattle.std.specs.Prelude.{slice_get, option_map, if◌then◌else◌}
+use Rattle.std.specs.Prelude.{slice_get, option_map, if◌then◌else◌, IfSome, IsSomeAnd}
 use Rattle.std.specs.Option.{option_or}
 use Rattle.std.specs.List.Sorted.{IsNonDecreasingBy, IsPartitionPoint}
 use Rattle.std.proofs.lemmas.Bool.{cases_Bool, false≢true, leb-false, leb-true}
 use Rattle.std.proofs.lemmas.Bool.Decides.{nat_tests}
-use Rattle.std.proofs.lemmas.List.Elements.{All-cons, All-nil}
+use Rattle.std.proofs.lemmas.List.Elements.{All-cons, All-nil, All-push, All-tail, All-weaker}
 use Rattle.std.proofs.lemmas.List.Sorted.{IsNonDecreasingBy-push}
 use Rattle.depot_marks.specs.declared.closings.Closing.{Closing}
-use Rattle.depot_marks.specs.Closings.{closes_of, greatest_at, greatest_of}
+use Rattle.depot_marks.specs.Closings.{Rises, closes_of, greatest_at, greatest_of}
 
 -- whether a delivery closed not as far as a tick
 abbrev pub is_short_of : (end : ℕ) → Closing → Bool
@@ -98,7 +99,7 @@ greatest_at-none closes (closing ∷ later) none =
     ]
 
 -- the ticks go on rising if one that closes further is put at the end
-pub rising-push : (closings : List Closing) (last : Closing) → IsNonDecreasingBy closes_of closings
+rising-push : (closings : List Closing) (last : Closing) → IsNonDecreasingBy closes_of closings
     → is_some (greatest_at closings last.closes) ≡ false
     → IsNonDecreasingBy closes_of (closings ++ last ∷ [])
 rising-push closings last rising none =
@@ -106,3 +107,64 @@ rising-push closings last rising none =
     let below : (get_or closings (length closings - 1) default).closes < last.closes =
     greatest_at-none last.closes closings none (length closings - 1) default (omega arith) in
     omega arith)
+
+-- all of it still holds if the greatest number rises
+Rises-raised : (closings : List Closing) (greatest raised : ℕ) → Rises closings greatest
+    → greatest ≤ raised → Rises closings raised
+Rises-raised closings greatest raised rises up = record {
+  closes = rises.closes;
+  numbers = rises.numbers;
+  within = All-weaker (λ (closing : Closing). closing.greatest ≤ greatest)
+      (λ (closing : Closing). closing.greatest ≤ raised) (λ closing below. omega arith) closings
+      rises.within;
+}
+
+-- and if one that closes further is put at the end, with the greatest number by now
+pub Rises-push : (closings : List Closing) (greatest : ℕ) (last : Closing)
+    → Rises closings greatest → greatest ≤ last.greatest
+    → is_some (greatest_at closings last.closes) ≡ false
+    → Rises (closings ++ last ∷ []) last.greatest
+Rises-push closings greatest last rises up none = record {
+  closes = rising-push closings last rises.closes none;
+  numbers = IsNonDecreasingBy-push greatest_of closings last rises.numbers (λ default some.
+      let before : (get_or closings (length closings - 1) default).greatest ≤ greatest =
+      rises.within (length closings - 1) default (omega arith) in
+      omega arith);
+  within = All-push (λ (closing : Closing). closing.greatest ≤ last.greatest) closings last
+      (Rises-raised closings greatest last.greatest rises up).within (omega arith);
+}
+
+-- what is no greater than each number is no greater than the one that is found
+greatest_at-least : (number closes : ℕ) (closings : List Closing)
+    → All (λ (closing : Closing). number ≤ closing.greatest) closings
+    → IfSome (greatest_at closings closes) (λ last. number ≤ last)
+greatest_at-least number closes [] least = tt
+greatest_at-least number closes (closing ∷ later) least =
+    at_first (nat_le closes closing.closes)
+    (greatest_at-least number closes later
+    (All-tail (λ (closing : Closing). number ≤ closing.greatest) closing later least))
+  where
+    at_first : (far : Bool) → IfSome (greatest_at later closes) (λ last. number ≤ last)
+        → IfSome (if far then Some closing.greatest else greatest_at later closes)
+        (λ last. number ≤ last)
+    at_first true rest = least 0 closing (omega arith)
+    at_first false rest = rest
+
+-- the number that is found for a tick is no greater than the one for a later tick
+pub greatest_at-le : (end later last : ℕ) (closings : List Closing)
+    → IsNonDecreasingBy greatest_of closings → end ≤ later → greatest_at closings later ≡ Some last
+    → IsSomeAnd (greatest_at closings end) (λ number. number ≤ last)
+greatest_at-le end later last [] rising before found = absurd cc
+greatest_at-le end later last (closing ∷ others) rising before found =
+    elim (cases_Bool (nat_le end closing.closes)) [
+      | inl far ↦
+          let least = greatest_at-least closing.greatest later (closing ∷ others)
+          (λ index default within. rising 0 index default (omega arith) within) in
+          rw far (rw found at least)
+      | inr near ↦
+          let also : nat_le later closing.closes ≡ false = grind (arith, nat_tests) in
+          rw near (greatest_at-le end later last others
+          (λ index next default upto within.
+          rising (suc index) (suc next) default (omega arith) (omega arith))
+          before (rw also at found))
+    ]

@@ -14,11 +14,11 @@ use Rattle.view_meaning.specs.Partitions.{is_among, is_key}
 use Rattle.view_meaning.proofs.AmongLemmas.{is_key-itself}
 
 -- numbers compare as equal exactly if they are the same
-is_eq-nat_cmp : (number other : ℕ) → is_eq (nat_cmp number other) ≡ (number == other)
+pub is_eq-nat_cmp : (number other : ℕ) → is_eq (nat_cmp number other) ≡ (number == other)
 is_eq-nat_cmp number other = grind (arith, nat_tests)
 
 -- an order of two parts is equal exactly if both are
-is_eq-ordering_then : (first second : Ordering)
+pub is_eq-ordering_then : (first second : Ordering)
     → is_eq (ordering_then first second) ≡ (is_eq first && is_eq second)
 is_eq-ordering_then Less second = refl
 is_eq-ordering_then Equal second = refl

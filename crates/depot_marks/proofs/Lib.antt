@@ -1,8 +1,11 @@
 pub mod ClosingLemmas
 pub mod NumberLemmas
 pub mod KeyLemmas
+pub mod RunLemmas
 pub mod MissedLemmas
 pub mod BookLemmas
 pub mod LeastLemmas
+pub mod WindowLemmas
 pub mod BelowLemmas
 pub mod SearchLemmas
+pub mod RunMarkLemmas

@@ -1,7 +1,7 @@
 -- What is missed, as the least number of one partition changes.
-use Rattle.std.proofs.Common.{◌≡◌, ◌∙◌, ℕ, ◌+◌, ◌<◌, List, length, take, get_or, refl, sym, ap, cond}
+use Rattle.std.proofs.Common.{◌≡◌, ◌∙◌, ℕ, ◌+◌, ◌<◌, List, ◌∷◌, length, take, get_or, refl, sym, ap, cond}
 use Rattle.std.proofs.Common.{inl, inr}
-use Rattle.std.specs.Prelude.{Bool, true, false, ◌||◌, Option, Some, None, IsSome, is_some}
+use Rattle.std.specs.Prelude.{All, Bool, true, false, ◌||◌, Option, Some, None, IsSome, is_some}
 use Rattle.std.specs.Prelude.{if◌then◌else◌, nat_le}
 use Rattle.std.specs.List.{list_any}
 use Rattle.std.specs.Map.{lookup}
@@ -9,6 +9,7 @@ use Rattle.std.specs.BTreeMap.{is_at}
 use Rattle.std.proofs.lemmas.Bool.{cases_Bool, false≢true}
 use Rattle.std.proofs.lemmas.List.Folds.{list_any_more}
 use Rattle.std.proofs.Math.Bool.{or-false, or_assoc}
+use Rattle.partition_map.specs.Partitions.{end_of}
 use Rattle.desc_types.specs.declared.table.Key.{Key}
 use Rattle.desc_types.specs.Keys.{key_cmp}
 use Rattle.view_meaning.specs.declared.aside.Aside.{Aside}
@@ -16,8 +17,11 @@ use Rattle.view_meaning.specs.Partitions.{is_key}
 use Rattle.view_meaning.specs.RawMarks.{is_missed}
 use Rattle.view_meaning.proofs.AmongLemmas.{is_key-same}
 use Rattle.depot_marks.specs.Missed.{HasPart, MissedOf, is_found_to, is_least_to, is_missed_to}
-use Rattle.depot_marks.specs.Missed.{part_of_aside}
+use Rattle.depot_marks.specs.Missed.{is_found_in, is_missed_when, part_of_aside}
+use Rattle.depot_marks.specs.declared.closings.Closing.{Closing}
+use Rattle.depot_marks.specs.Closings.{greatest_at}
 use Rattle.depot_marks.proofs.KeyLemmas.{is_at-key_cmp}
+use Rattle.depot_marks.proofs.RunLemmas.{entries_at, list_any-entries_at}
 
 -- a partition has a least number, or none, and each other one has what it had
 abbrev pub IsUpdate : (key : Key) (least : Option ℕ) (old new : MissedOf) → Type 0
@@ -91,3 +95,38 @@ pub list_any-step : (was now new : Bool) (test : Aside → Bool) (asides : List 
 list_any-step was now new test asides index default within before one =
     rw (one, before, list_any_more test asides index default within)
     (or_assoc was (list_any test (take index asides)) (test (get_or asides index default)))
+
+-- nothing that was found is missed
+is_found_in-none : (expected : Option ℕ) → is_found_in None expected ≡ false
+is_found_in-none None = refl
+is_found_in-none (Some last) = refl
+
+-- whether an entry has a least number up to the greatest that was expected of its partition
+abbrev pub is_entry_missed : List Closing → (width : ℕ) → Key × Option ℕ → Bool
+is_entry_missed closings width entry =
+    is_found_in (Some entry.1) (greatest_at closings (end_of width entry.0.part))
+
+-- what is missed at some partitions is what the entries at these tell
+pub list_any-missed : (missed : MissedOf) (closings : List Closing) (width : ℕ) (keys : List Key)
+    → All (λ entry. lookup (is_at (key_cmp entry.0)) missed ≡ Some entry.1) (entries_at keys missed)
+    → list_any (is_entry_missed closings width) (entries_at keys missed)
+    ≡ list_any (is_missed_when missed closings width) keys
+list_any-missed missed closings width keys found =
+    list_any-entries_at
+    (λ key least. is_found_in least (greatest_at closings (end_of width key.part))) keys missed
+    (λ key. is_found_in-none (greatest_at closings (end_of width key.part))) found
+
+-- an entry that passes a test ends a search
+pub list_any-hit : {X : Type 0} (test : X → Bool) (first : X) (xs rest : List X) (answer : Bool)
+    → xs ≡ first ∷ rest → test first ≡ true → list_any test xs ≡ answer → true ≡ answer
+list_any-hit test first xs rest answer is passes search =
+    sym (ap (λ (hit : Bool). hit || list_any test rest) passes)
+    ∙ sym (ap (list_any test) is) ∙ search
+
+-- one that does not leaves it to the others
+pub list_any-miss : {X : Type 0} (test : X → Bool) (first : X) (xs rest : List X) (answer : Bool)
+    → xs ≡ first ∷ rest → test first ≡ false → list_any test xs ≡ answer
+    → list_any test rest ≡ answer
+list_any-miss test first xs rest answer is fails search =
+    sym (ap (λ (hit : Bool). hit || list_any test rest) fails)
+    ∙ sym (ap (list_any test) is) ∙ search

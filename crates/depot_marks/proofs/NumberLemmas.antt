@@ -1,5 +1,5 @@
 -- The first number that is missing tells which numbers all lie before it.
-use Rattle.std.proofs.Common.{◌≡◌, ◌∙◌, ℕ, ◌+◌, ◌<◌, ◌≤◌, ◌^◌, get_or, refl, sym, arith}
+use Rattle.std.proofs.Common.{◌≡◌, ◌∙◌, ℕ, ◌+◌, ◌<◌, ◌≤◌, ◌^◌, get_or, refl, subst, sym, arith}
 use Rattle.std.proofs.Common.{inl, inr}
 use Rattle.std.specs.Prelude.{true, false, nat_lt}
 use Rattle.std.specs.List.{list_all, range_with_len}
@@ -7,7 +7,7 @@ use Rattle.std.proofs.lemmas.Bool.{cases_Bool, ltb-false, ltb-true}
 use Rattle.std.proofs.lemmas.Bool.Decides.{nat_tests}
 use Rattle.std.proofs.lemmas.List.Folds.{list_all_at}
 use Rattle.std.proofs.lemmas.List.FromFn.{get_or-range_with_len, length-range_with_len}
-use Rattle.std.proofs.lemmas.List.Sums.{list_all-from_AllPass}
+use Rattle.std.proofs.lemmas.List.Sums.{AllPass-from_list_all, list_all-from_AllPass}
 use Rattle.partition_map.proofs.ListLemmas.{All-range_with_len}
 use Rattle.depot_marks.specs.Numbers.{IsLeastMissing, NumbersOf, flag_at, is_accepted}
 
@@ -44,3 +44,17 @@ list_all-missing numbers last short least =
           let far : numbers.missing ≤ last = ltb-false last numbers.missing beyond in
           list_all-beyond numbers last far (least (omega arith)) ∙ sym beyond
     ]
+
+-- if all up to a number were accepted, so were all up to a lesser one
+pub list_all-lesser : (numbers : NumbersOf) (number last : ℕ) → number ≤ last
+    → list_all (is_accepted numbers) (range_with_len 0 (last + 1)) ≡ true
+    → list_all (is_accepted numbers) (range_with_len 0 (number + 1)) ≡ true
+list_all-lesser numbers number last lesser all =
+    let run = range_with_len 0 (last + 1) in
+    list_all-from_AllPass (is_accepted numbers) (range_with_len 0 (number + 1))
+    (All-range_with_len (λ one. is_accepted numbers one ≡ true) 0 (number + 1) (λ one _ within.
+    let here : get_or run one 0 ≡ one =
+    omega (arith, get_or-range_with_len 0 (last + 1) one 0 (omega arith)) in
+    subst (λ one. is_accepted numbers one ≡ true) here
+    (AllPass-from_list_all (is_accepted numbers) run all one 0
+    (omega (arith, length-range_with_len 0 (last + 1))))))

@@ -4,6 +4,7 @@ use Rattle.std.specs.Prelude.{Some, None, All, max, nat_le, if◌then◌else◌}
 use Rattle.std.specs.Option.{option_or}
 use Rattle.std.specs.List.{list_all, list_any, range_with_len}
 use Rattle.desc_types.specs.declared.table.Key.{Key}
+use Rattle.partition_map.specs.Partitions.{end_of}
 use Rattle.view_meaning.specs.declared.aside.Aside.{Aside}
 use Rattle.view_meaning.specs.declared.request.Mark.{Mark}
 use Rattle.view_meaning.specs.declared.request.Mark.TheVariants as mark
@@ -28,6 +29,10 @@ mark_if marks key (Some last) = closed_mark marks key last
 -- the mark of a partition that ends at a tick
 abbrev pub mark_told : FeedMarks → Key → (end : ℕ) → Mark
 mark_told marks key end = mark_if marks key (greatest_at marks.closings.items end)
+
+-- the mark of a partition of a table of this width
+abbrev pub part_mark : FeedMarks → (width : ℕ) → Key → Mark
+part_mark marks width key = mark_told marks key (end_of width key.part)
 
 -- no delivery came
 pub record HasNothing (marks : FeedMarks) : Type 0 where

@@ -1,14 +1,12 @@
 -- Books of marks: what is kept of the accepted deliveries so that a mark is told without a pass over
 -- them.
-use Rattle.std.specs.Prelude.{ℕ, ◌≡◌, List, Option, Some, None, IfSome, IsSomeAnd, true, false, ◌==◌}
+use Rattle.std.specs.Prelude.{ℕ, ◌≡◌, List, Some, IfSome, IsSomeAnd, true, false, ◌==◌}
 use Rattle.std.specs.Prelude.{is_some, length, slice_get}
 use Rattle.std.specs.Option.{unwrap_or}
 use Rattle.desc_types.specs.declared.table.Key.{Key}
 use Rattle.desc_types.specs.Deliveries.{DeliveryOf}
 use Rattle.desc_types.specs.Descriptions.{DescOf}
 use Rattle.view_meaning.specs.declared.aside.Aside.{Aside}
-use Rattle.view_meaning.specs.declared.request.Mark.{Mark}
-use Rattle.view_meaning.specs.declared.request.Mark.TheVariants as mark
 use Rattle.view_meaning.specs.Closing.{is_closed_in, is_fed_by, part_end}
 use Rattle.view_meaning.specs.Partitions.{is_part}
 use Rattle.view_meaning.specs.RawMarks.{greatest, has_number, misses}
@@ -17,7 +15,7 @@ use Rattle.depot_marks.specs.declared.feed.FeedMarks.{FeedMarks}
 use Rattle.depot_marks.specs.Closings.{greatest_at}
 use Rattle.depot_marks.specs.Numbers.{is_accepted}
 use Rattle.depot_marks.specs.Missed.{is_missed_to}
-use Rattle.depot_marks.specs.FeedMarks.{HasFeedRoom, mark_told}
+use Rattle.depot_marks.specs.FeedMarks.{HasFeedRoom}
 
 -- a book of marks: what each feed's deliveries told, by number of the feed
 pub record MarkBookOf : Type 0 where
@@ -50,11 +48,6 @@ pub record HasRoom (delivery : DeliveryOf) (asides : List Aside) (book : MarkBoo
 pub record IsRawPart (desc : DescOf) (key : Key) : Type 0 where
   pub raw : is_raw (slice_get desc.tables key.table) ≡ true
   pub part : is_part desc key ≡ true
-
--- the mark of a partition that ends at a tick, if its feed is one of these
-abbrev pub mark_in : Option FeedMarks → Key → (end : ℕ) → Mark
-mark_in None key end = mark.Open
-mark_in (Some marks) key end = mark_told marks key end
 
 -- of all that stand in a list only what is at one place has changed
 pub record ChangesAt {X : Type 0} (place : ℕ) (Changes : X → X → Type 0)

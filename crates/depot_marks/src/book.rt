@@ -1,6 +1,7 @@
 //! The book of marks.
 
-ghost use Rattle.std.specs.Prelude.{List, ◌≡◌, ◌<◌, ◌∷◌, ◌++◌, [], IfOk, IfSome, OnOk, All, false, true};
+ghost use Rattle.std.specs.Prelude.{List, ◌≡◌, ◌<◌, ◌∷◌, ◌++◌, [], IfOk, IfSome, OnOk, All};
+ghost use Rattle.std.specs.Prelude.{Some, false, true};
 ghost use Rattle.std.specs.Prelude.{length, map, slice_get, vec_len};
 ghost use Rattle.std.specs.List.{list_any};
 ghost use Rattle.desc_types.specs.Deliveries.{DeliveryOf};
@@ -11,14 +12,18 @@ ghost use Rattle.view_meaning.specs.Partitions.{is_part};
 ghost use Rattle.view_meaning.specs.RawBelow.{raw_below};
 ghost use Rattle.view_meaning.specs.RawMarks.{raw_mark};
 ghost use Rattle.view_meaning.specs.SetAside.{asides_of};
+ghost use Rattle.depot_marks.specs.declared.feed.FeedMarks.{FeedMarks as FeedMarksOf};
 ghost use Rattle.depot_marks.specs.FeedMarks.{HasFeedRoom, HasNothing, TakesIn, TellsSame};
-ghost use Rattle.depot_marks.specs.MarkBooks.{ChangesAt, HasRoom, IsRawPart, TellsMarks, mark_in};
+ghost use Rattle.depot_marks.specs.FeedMarks.{part_mark};
+ghost use Rattle.depot_marks.specs.MarkBooks.{ChangesAt, HasRoom, IsRawPart, TellsMarks};
+ghost use Rattle.depot_marks.specs.Runs.{IsPartOf, keys_in, keys_of_run};
 
-use crate::below::raw_keys_below;
+use crate::below::raw_runs_below;
 use crate::feed::FeedMarks;
+use crate::run::Run;
 use depot_cell::Memory;
-use desc_types::{AcceptedDesc, Delivery, Key, Kind};
-use partition_map::part_end;
+use desc_types::{AcceptedDesc, Delivery, Key, Kind, Width};
+use partition_map::Parts;
 use std::alloc::Global;
 use std::marker::Model;
 use view_meaning::{Aside, Mark};
@@ -84,25 +89,48 @@ impl MarkBook {
         ensures exact { (accepted : List DeliveryOf) → TellsMarks served.now.desc accepted self.now
             → result ≡ raw_mark served.now.desc accepted key }
     {
-        let table = served.table(key.table);
+        let parts = Parts {
+            first: key.part,
+            count: 1,
+        };
+        self.run_mark(
+            served,
+            Run {
+                table: key.table,
+                parts,
+            },
+        )
+    }
+
+    /// The least mark of the raw partitions of a run, and complete if there are none.
+    fn run_mark(&self, served: &AcceptedDesc, run: Run) -> Mark
+        requires raw { All (IsRawPart served.now.desc) (keys_of_run run) }
+        ensures exact { (accepted : List DeliveryOf) → TellsMarks served.now.desc accepted self.now
+            → result ≡ least (map (raw_mark served.now.desc accepted) (keys_of_run run)) }
+    {
+        if run.parts.count == 0 {
+            return Mark::Complete;
+        }
+        let table = served.table(run.table);
         match &table.kind {
             Kind::Raw { feed, .. } => {
-                let end = part_end(table.width, key.part);
-                mark_in(&self.feeds, usize::from(*feed), key, end)
+                run_mark_in(&self.feeds, usize::from(*feed), table.width, run)
             }
             Kind::Filter { .. } | Kind::Group { .. } | Kind::Join { .. } => unreachable!(),
         }
     }
 
-    /// The least mark of some raw partitions, and complete if there are none. It takes no memory.
-    pub fn least_mark(&self, served: &AcceptedDesc, keys: &[Key]) -> Mark
-        requires raw { All (IsRawPart served.now.desc) keys.now }
+    /// The least mark of the raw partitions of some runs, and complete if there are none. It takes no
+    /// memory. A run costs a few searches, and a look at each of its partitions for which rows were
+    /// set aside.
+    pub fn least_mark(&self, served: &AcceptedDesc, runs: &[Run]) -> Mark
+        requires raw { All (IsRawPart served.now.desc) (keys_in runs.now) }
         ensures exact { (accepted : List DeliveryOf) → TellsMarks served.now.desc accepted self.now
-            → result ≡ least (map (raw_mark served.now.desc accepted) keys.now) }
+            → result ≡ least (map (raw_mark served.now.desc accepted) (keys_in runs.now)) }
     {
         let mut least = Mark::Complete;
-        for key in keys {
-            least = lower(least, self.raw_mark(served, *key));
+        for run in runs {
+            least = lower(least, self.run_mark(served, *run));
         }
         least
     }
@@ -115,8 +143,8 @@ impl MarkBook {
             → mark ≡ least (map (raw_mark served.now.desc accepted)
             (raw_below served.now.desc key))) }
     {
-        let keys = raw_keys_below(alloc, served, key)?;
-        Ok(self.least_mark(served, &keys))
+        let runs = raw_runs_below(alloc, served, key)?;
+        Ok(self.least_mark(served, &runs))
     }
 }
 
@@ -163,12 +191,15 @@ fn note_in(feeds: &mut Vec<FeedMarks>, feed: usize, number: u32, closes: u64, as
     }
 }
 
-/// The mark of a partition that ends at a tick, by what its feed tells if it is one of these.
-fn mark_in(feeds: &[FeedMarks], feed: usize, key: Key, end: u64) -> Mark
-    ensures exact { result ≡ mark_in (slice_get feeds.now feed) key end }
+/// The least mark of the partitions of a run, by what its feed tells if it is one of these.
+fn run_mark_in(feeds: &[FeedMarks], feed: usize, width: Width, run: Run) -> Mark
+    requires some { 0 < run.parts.count }
+    requires parts { All (IsPartOf width) (keys_of_run run) }
+    ensures told { (marks : FeedMarksOf) → slice_get feeds.now feed ≡ Some marks
+        → result ≡ least (map (part_mark marks width) (keys_of_run run)) }
 {
     match feeds.get(feed) {
-        Some(marks) => marks.mark(key, end),
+        Some(marks) => marks.run_mark(width, run),
         None => Mark::Open,
     }
 }

@@ -4,7 +4,7 @@ ghost use Rattle.std.specs.Prelude.{ℕ, [], None, Some, ◌≡◌, ◌<◌, OnO
 ghost use Rattle.std.specs.Prelude.{if◌then◌else◌, option_map, slice_get};
 ghost use Rattle.std.specs.Option.{option_or};
 ghost use Rattle.std.specs.List.Sorted.{IsNonDecreasingBy};
-ghost use Rattle.depot_marks.specs.Closings.{closes_of, greatest_at, greatest_of};
+ghost use Rattle.depot_marks.specs.Closings.{Rises, closes_of, greatest_at, greatest_of};
 
 use depot_cell::Memory;
 use std::alloc::Global;
@@ -28,8 +28,7 @@ pub(crate) struct Closings {
 
 impl Model for Closings {
     ghost use Rattle.std.specs.Prelude.{◌-◌, vec_capacity, vec_len};
-    ghost use Rattle.std.specs.List.Sorted.{IsNonDecreasingBy};
-    ghost use Rattle.depot_marks.specs.Closings.{ClosingsOf, closes_of};
+    ghost use Rattle.depot_marks.specs.Closings.{ClosingsOf, Rises};
 
     ghost Value = { ClosingsOf };
 
@@ -39,7 +38,7 @@ impl Model for Closings {
       room = vec_capacity closings.items - vec_len closings.items;
     } };
 
-    ghost invariant = { λ closings. IsNonDecreasingBy closes_of closings.items.items };
+    ghost invariant = { λ closings. Rises closings.items.items closings.greatest };
 }
 
 impl Closings {
@@ -90,6 +89,7 @@ impl Closings {
     /// tick.
     pub(crate) fn greatest_at(&self, end: u64) -> Option<u32>
         ensures exact { result ≡ greatest_at self.now.items end }
+        ensures kept { Rises self.now.items self.now.greatest }
     {
         greatest_at(&self.items, end)
     }

@@ -1,14 +1,22 @@
 //! What tells the marks of the raw partitions of one feed.
 
-ghost use Rattle.std.specs.Prelude.{◌≡◌, OnOk};
+ghost use Rattle.std.specs.Prelude.{◌≡◌, ◌<◌, ◌+◌, ◌&&◌, OnOk, All, map, not, if◌then◌else◌};
+ghost use Rattle.std.specs.List.{list_all, list_any, range_with_len};
+ghost use Rattle.view_meaning.specs.declared.request.Mark.TheVariants as mark;
+ghost use Rattle.view_meaning.specs.Marks.{least};
 ghost use Rattle.depot_marks.specs.FeedMarks.{HasFeedRoom, HasNothing, TakesIn, TellsSame};
-ghost use Rattle.depot_marks.specs.FeedMarks.{closed_mark, mark_told};
+ghost use Rattle.depot_marks.specs.FeedMarks.{part_mark};
+ghost use Rattle.depot_marks.specs.Missed.{is_missed_when};
+ghost use Rattle.depot_marks.specs.Numbers.{is_accepted};
+ghost use Rattle.depot_marks.specs.Runs.{IsPartOf, keys_of_run};
 
 use crate::closings::Closings;
 use crate::missed::Missed;
 use crate::numbers::Numbers;
+use crate::run::Run;
 use depot_cell::Memory;
-use desc_types::Key;
+use desc_types::Width;
+use partition_map::part_end;
 use std::alloc::Global;
 use view_meaning::{Aside, Mark};
 
@@ -54,21 +62,31 @@ impl FeedMarks {
         self.missed.note(asides);
     }
 
-    /// The mark of a partition that ends at a tick. It takes no memory.
-    pub(crate) fn mark(&self, key: Key, end: u64) -> Mark
-        ensures exact { result ≡ mark_told self.now key end }
+    /// The least mark of the partitions of a run, of a table of the feed. It takes no memory.
+    pub(crate) fn run_mark(&self, width: Width, run: Run) -> Mark
+        requires some { 0 < run.parts.count }
+        requires parts { All (IsPartOf width) (keys_of_run run) }
+        ensures exact { result ≡ least (map (part_mark self.now width) (keys_of_run run)) }
     {
-        match self.closings.greatest_at(end) {
-            Some(last) => self.closed_mark(key, last),
+        let last = run.parts.first + (run.parts.count - 1);
+        match self.closings.greatest_at(part_end(width, last)) {
+            Some(greatest) => self.closed_mark(width, run, greatest),
             None => Mark::Open,
         }
     }
 
-    /// The mark of a partition that is closed, of which deliveries up to a number were expected.
-    fn closed_mark(&self, key: Key, last: u32) -> Mark
-        ensures exact { result ≡ closed_mark self.now key last }
+    /// The least mark of the partitions of a run of which the last one is closed, if deliveries up
+    /// to a number were expected of that one. Then all are closed, and of none more deliveries were
+    /// expected.
+    fn closed_mark(&self, width: Width, run: Run, greatest: u32) -> Mark
+        requires parts { All (IsPartOf width) (keys_of_run run) }
+        ensures exact { result ≡ (if list_all (is_accepted self.now.numbers)
+            (range_with_len 0 (greatest + 1))
+            && not (list_any (is_missed_when self.now.missed self.now.closings.items width)
+            (keys_of_run run))
+            then mark.Complete else mark.Closed) }
     {
-        if self.numbers.has_all_to(last) && !self.missed.is_missed_to(key, last) {
+        if self.numbers.has_all_to(greatest) && !self.missed.misses_in(width, run, &self.closings) {
             Mark::Complete
         } else {
             Mark::Closed

@@ -10,6 +10,9 @@ mod closings;
 mod feed;
 mod missed;
 mod numbers;
+mod run;
+mod windows;
 
-pub use below::raw_keys_below;
+pub use below::raw_runs_below;
 pub use book::MarkBook;
+pub use run::Run;

@@ -1,14 +1,18 @@
 //! Of which deliveries of a feed rows were set aside, by partition.
 
-ghost use Rattle.std.specs.Prelude.{ℕ, false, ◌≡◌, ◌||◌, All, OnOk, nat_le};
+ghost use Rattle.std.specs.Prelude.{ℕ, Some, false, ◌≡◌, ◌||◌, All, OnOk, nat_le};
 ghost use Rattle.std.specs.List.{list_any};
 ghost use Rattle.desc_types.specs.declared.table.Key.{Key as KeyOf};
 ghost use Rattle.view_meaning.specs.RawMarks.{is_missed};
 ghost use Rattle.depot_marks.specs.Missed.{HasPart, HasPartOf, is_least_to, is_missed_to};
-ghost use Rattle.depot_marks.specs.Missed.{part_of_aside};
+ghost use Rattle.depot_marks.specs.Missed.{is_found_in, is_missed_when, part_of_aside};
+ghost use Rattle.depot_marks.specs.Runs.{IsPartOf, keys_of_run};
 
+use crate::closings::Closings;
+use crate::run::Run;
 use depot_cell::Memory;
-use desc_types::Key;
+use desc_types::{Key, Width};
+use partition_map::part_end;
 use std::alloc::Global;
 use std::collections::BTreeMap;
 use std::marker::Model;
@@ -57,15 +61,33 @@ impl Missed {
         note_all(&mut self.parts, asides);
     }
 
-    /// Whether a row for a partition, of a delivery up to a number, was set aside.
-    pub(crate) fn is_missed_to(&self, key: Key, last: u32) -> bool
-        ensures exact { result ≡ is_missed_to self.now key last }
+    /// Whether a row for one of the partitions of a run was set aside, of a delivery up to the
+    /// greatest number that was expected of that partition. Only the partitions that have a place
+    /// are looked at.
+    pub(crate) fn misses_in(&self, width: Width, run: Run, closings: &Closings) -> bool
+        requires parts { All (IsPartOf width) (keys_of_run run) }
+        ensures exact { result ≡ list_any (is_missed_when self.now closings.now.items width)
+            (keys_of_run run) }
     {
-        match self.parts.get(&key) {
-            Some(Some(number)) => *number <= last,
-            Some(None) => false,
-            None => false,
+        for (key, least) in run.entries_in(&self.parts) {
+            let expected = closings.greatest_at(part_end(width, key.part));
+            if is_least_in(*least, expected) {
+                return true;
+            }
         }
+        false
+    }
+}
+
+/// Whether there are a least number and a greatest one that was expected, and the least is no
+/// greater.
+fn is_least_in(least: Option<u32>, expected: Option<u32>) -> bool
+    ensures exact { result ≡ is_found_in (Some least) expected }
+{
+    match (least, expected) {
+        (Some(number), Some(last)) => number <= last,
+        (Some(_), None) => false,
+        (None, _) => false,
     }
 }
 

@@ -21,6 +21,7 @@ use Rattle.desc_types.specs.Keys.{key_cmp}
 use Rattle.view_meaning.specs.Partitions.{is_among, is_key}
 use Rattle.view_meaning.proofs.AmongLemmas.{is_key-same}
 use Rattle.raw_load.proofs.CompareLemmas.{is_at-key_cmp, is_at-key_cmp-same}
+use Rattle.depot_marks.proofs.RunLemmas.{entries_at, list_any-entries_at}
 use Rattle.run_journal.specs.Touched.{GainsKeys, HasPlace, KeepsGained, is_gained}
 
 -- keys compare as equal exactly if they are the same
@@ -207,3 +208,12 @@ is_among-gained_in (entry ∷ later) key distinct =
     at true true rest none = refl
     at false true rest none = none refl
     at gained false rest none = ap (λ (own : Bool). own || rest) (and-false gained)
+
+-- rows were gained at some partitions if the map tells it at one of these
+pub list_any-gained : (touched : List (Key × Bool)) (keys : List Key)
+    → All (λ entry. lookup (is_at (key_cmp entry.0)) touched ≡ Some entry.1)
+    (entries_at keys touched)
+    → list_any (λ (entry : Key × Bool). entry.1) (entries_at keys touched)
+    ≡ list_any (is_gained touched) keys
+list_any-gained touched keys found =
+    list_any-entries_at (λ _ found. unwrap_or found false) keys touched (λ _. refl) found

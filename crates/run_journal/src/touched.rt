@@ -5,9 +5,11 @@ ghost use Rattle.std.specs.Prelude.{◌≡◌, All, IfOk, OnOk};
 ghost use Rattle.std.specs.List.{list_any};
 ghost use Rattle.desc_types.specs.declared.table.Key.{Key as KeyOf};
 ghost use Rattle.view_meaning.specs.Partitions.{is_among};
+ghost use Rattle.depot_marks.specs.Runs.{IsInTime, keys_in, keys_of_run};
 ghost use Rattle.run_journal.specs.Touched.{GainsKeys, HasPlace, KeepsGained, is_gained};
 
 use depot_cell::Memory;
+use depot_marks::Run;
 use desc_types::Key;
 use std::alloc::Global;
 use std::collections::BTreeMap;
@@ -64,19 +66,24 @@ pub(crate) fn gained_keys(alloc: Global, touched: &BTreeMap<Key, bool>) -> Resul
     Ok(keys)
 }
 
-/// Whether one of some partitions gained rows.
-pub(crate) fn has_gained(touched: &BTreeMap<Key, bool>, keys: &[Key]) -> bool
-    ensures exact { result ≡ list_any (is_gained touched.now.entries) keys.now }
+/// Whether one of the partitions of some runs gained rows. Only the partitions that have a place are
+/// looked at.
+pub(crate) fn has_gained(touched: &BTreeMap<Key, bool>, runs: &[Run]) -> bool
+    requires within { All IsInTime (keys_in runs.now) }
+    ensures exact { result ≡ list_any (is_gained touched.now.entries) (keys_in runs.now) }
 {
-    keys.iter().any(|key| is_gained(touched, *key))
+    for run in runs {
+        if has_gained_in(touched, *run) {
+            return true;
+        }
+    }
+    false
 }
 
-/// Whether a partition gained rows.
-fn is_gained(touched: &BTreeMap<Key, bool>, key: Key) -> bool
-    ensures exact { result ≡ is_gained touched.now.entries key }
+/// Whether one of the partitions of a run gained rows.
+fn has_gained_in(touched: &BTreeMap<Key, bool>, run: Run) -> bool
+    requires within { All IsInTime (keys_of_run run) }
+    ensures exact { result ≡ list_any (is_gained touched.now.entries) (keys_of_run run) }
 {
-    match touched.get(&key) {
-        Some(gained) => *gained,
-        None => false,
-    }
+    run.entries_in(touched).any(|(_, gained)| *gained)
 }

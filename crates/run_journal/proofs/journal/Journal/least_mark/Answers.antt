@@ -5,6 +5,7 @@ use Rattle.view_meaning.specs.Journal.{accepted}
 use Rattle.view_meaning.specs.RawMarks.{raw_mark}
 use Rattle.view_meaning.specs.RawBelow.{raw_below}
 use Rattle.depot_marks.specs.MarkBooks.{TellsMarks}
+use Rattle.depot_marks.specs.Runs.{keys_in}
 use Rattle.depot_marks.proofs.LeastLemmas.{least-same}
 use Rattle.run_journal.specs.KeptJournals.{JournalOf}
 use Rattle.run_journal.proofs.journal.Journal.least_mark.Goals as goal
@@ -17,6 +18,6 @@ returns c =
     (sym c.self.view_is) c.requires.kept.tells.marks in
     record {
       exact = c.least_mark.ensures.exact all tells
-          ∙ least-same (raw_mark c.args.served.now.desc all) c.args.below.now
+          ∙ least-same (raw_mark c.args.served.now.desc all) (keys_in c.args.below.now)
           (raw_below c.args.served.now.desc c.args.key) c.requires.below;
     }
