@@ -1,0 +1,10 @@
+pub mod OrderLemmas
+pub mod PlaceLemmas
+pub mod FirstLemmas
+pub mod ReplacedLemmas
+pub mod KeptLemmas
+pub mod ListingLemmas
+pub mod ReaderLemmas
+pub mod PinLemmas
+pub mod FreeLemmas
+pub mod AheadLemmas
