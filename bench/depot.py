@@ -12,6 +12,7 @@ import tempfile
 
 TOP = os.path.dirname(os.path.dirname(os.path.abspath(__file__)))
 PROGRAM = os.path.join(TOP, "crates", "depot_cli", "out", "depot_cli")
+STALE_BENCH = os.path.join(TOP, "crates", "stale_bench", "out", "stale_bench")
 WORDS = [".", "trial"]
 
 # A run that takes longer than this is stopped. The longest ones take some ten seconds.
@@ -116,11 +117,11 @@ def told_by(stderr):
     return "; ".join(told) or "nothing on standard error"
 
 
-def run(command, session, tunables=""):
-    """Runs a command on a session, and compares code and replies with those that are wanted."""
+def run(command, script, wanted, tunables=""):
+    """Runs a command on an input, and compares code and replies with those that are wanted."""
     settings = dict(os.environ, GLIBC_TUNABLES=tunables)
     try:
-        ended = subprocess.run(command, input=session.script(), capture_output=True, env=settings,
+        ended = subprocess.run(command, input=script, capture_output=True, env=settings,
                                timeout=MOST_SECONDS)
     except FileNotFoundError:
         raise Unmeasured("%s is not installed" % command[0])
@@ -128,16 +129,21 @@ def run(command, session, tunables=""):
         raise Unmeasured("a run was stopped after %d seconds" % MOST_SECONDS)
     if ended.returncode != 0:
         raise Unmeasured("a run ended with code %d: %s" % (ended.returncode, told_by(ended.stderr)))
-    if ended.stdout != session.wanted():
-        raise Unmeasured(first_difference(ended.stdout, session.wanted()))
+    if ended.stdout != wanted:
+        raise Unmeasured(first_difference(ended.stdout, wanted))
 
 
 def instructions(session, tunables=""):
-    """How many instructions a run takes, by callgrind, with these settings of the C library."""
+    """How many instructions a run on a session takes, with these settings of the C library."""
+    return instructions_of(PROGRAM, WORDS, session.script(), session.wanted(), tunables)
+
+
+def instructions_of(program, words, script=b"", wanted=b"", tunables=""):
+    """How many instructions a run of a program takes, by callgrind."""
     with tempfile.TemporaryDirectory() as folder:
         counts = os.path.join(folder, "callgrind.out")
         valgrind = ["valgrind", "--tool=callgrind", "--callgrind-out-file=" + counts]
-        run(valgrind + [PROGRAM] + WORDS, session, tunables)
+        run(valgrind + [program] + words, script, wanted, tunables)
         with open(counts) as file:
             found = re.search(r"^(?:summary|totals): (\d+)", file.read(), re.MULTILINE)
     if not found:
@@ -161,15 +167,15 @@ def processor_seconds(session):
 
 def one_processor_time(session):
     before = resource.getrusage(resource.RUSAGE_CHILDREN)
-    run([PROGRAM] + WORDS, session)
+    run([PROGRAM] + WORDS, session.script(), session.wanted())
     after = resource.getrusage(resource.RUSAGE_CHILDREN)
     return after.ru_utime - before.ru_utime + after.ru_stime - before.ru_stime
 
 
-def require_program():
-    """Ends the script if there is no proved program."""
-    if not os.access(PROGRAM, os.X_OK):
-        print("no proved program at %s: run `make program` first" % os.path.relpath(PROGRAM),
+def require_program(program=PROGRAM):
+    """Ends the script if the program was not proved and built."""
+    if not os.access(program, os.X_OK):
+        print("no proved program at %s: run `make program` first" % os.path.relpath(program),
               file=sys.stderr)
         sys.exit(NOT_MEASURED)
 

@@ -18,3 +18,10 @@ pub or-and : (first second also : Bool) → (also ≡ false → first ≡ false)
 or-and true second true never = refl
 or-and true second false never = absurd (false≢true (sym (never refl)))
 or-and false second also never = refl
+
+-- two conditions are the same in either order
+pub and-swap : (first second : Bool) → (first && second) ≡ (second && first)
+and-swap true true = refl
+and-swap true false = refl
+and-swap false true = refl
+and-swap false false = refl

@@ -4,3 +4,14 @@ pub mod NumberLemmas
 pub mod PartListLemmas
 pub mod GainedLemmas
 pub mod ReachedListLemmas
+pub mod OrderLemmas
+pub mod PlaceLemmas
+pub mod HistoryLemmas
+pub mod StandingLemmas
+pub mod ViewKeyLemmas
+pub mod ReaderLemmas
+pub mod EntryLemmas
+pub mod TellsLemmas
+pub mod NoteLemmas
+pub mod InstallLemmas
+pub mod UnsettledLemmas

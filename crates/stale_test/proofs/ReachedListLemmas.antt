@@ -39,7 +39,7 @@ use Rattle.view_meaning.proofs.ReachedLemmas.{is_reached-step}
 use Rattle.view_meaning.proofs.SourceLemmas.{sources_of-earlier}
 
 -- a partition that shares a tick with time begins in it
-start-is_part : (width part : ℕ) → is_met width 0 END part ≡ true → start_of width part < END
+pub start-is_part : (width part : ℕ) → is_met width 0 END part ≡ true → start_of width part < END
 start-is_part width part met =
     let shared = ltb-true (max (start_of width part) 0) (min (end_of width part) END) met in
     omega arith

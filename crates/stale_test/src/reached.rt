@@ -46,7 +46,7 @@ pub fn reached_keys(alloc: Global, desc: &Desc, gained: &[Key]) -> Result<Vec<Ke
 }
 
 /// The table with a number.
-fn nth_table(desc: &Desc, number: usize) -> &Table
+pub(crate) fn nth_table(desc: &Desc, number: usize) -> &Table
     requires { number < length desc.now.tables }
     ensures exact { slice_get desc.now.tables number ≡ Some result.now }
 {
@@ -67,7 +67,11 @@ fn push_list(lists: &mut Vec<Vec<u64>>, parts: Vec<u64>) -> Result<(), Memory>
 }
 
 /// Of each table the numbers of its partitions that gained rows.
-fn gained_parts(alloc: Global, desc: &Desc, gained: &[Key]) -> Result<Vec<Vec<u64>>, Memory>
+pub(crate) fn gained_parts(
+    alloc: Global,
+    desc: &Desc,
+    gained: &[Key],
+) -> Result<Vec<Vec<u64>>, Memory>
     requires parts { All (λ key. is_part desc.now key ≡ true) gained.now }
     ensures each { IfOk result (λ lists. vec_len lists ≡ length desc.now.tables) }
     ensures exact { IfOk result (λ lists. AreGained (is_among gained.now) (lists_of lists.items)) }
@@ -109,7 +113,7 @@ fn push_part(lists: &mut Vec<Vec<u64>>, table: usize, part: u64) -> Result<(), M
 }
 
 /// Puts at the end the numbers of a table's partitions that read one of those listed.
-fn push_above(
+pub(crate) fn push_above(
     desc: &Desc,
     table: &Table,
     lists: &[Vec<u64>],
@@ -212,7 +216,7 @@ fn push_run(run: Parts, parts: &mut Vec<u64>) -> Result<(), Memory>
 }
 
 /// Puts numbers in order and leaves out doubles.
-fn sort_parts(parts: &mut Vec<u64>)
+pub(crate) fn sort_parts(parts: &mut Vec<u64>)
     ensures rising { IsStrictlyIncreasing parts.new.items }
     ensures same { (part : ℕ) → has parts.new.items part ≡ has parts.old.items part }
 {
@@ -240,7 +244,7 @@ fn push_view_keys(
 }
 
 /// Puts the partitions of a table with these numbers at the end.
-fn push_keys(table: u16, parts: &[u64], keys: &mut Vec<Key>) -> Result<(), Memory>
+pub(crate) fn push_keys(table: u16, parts: &[u64], keys: &mut Vec<Key>) -> Result<(), Memory>
     ensures ok { OnOk result (keys.new.items ≡ keys.old.items ++ map (key_of table) parts.now) }
     ensures err { OnErr result (BeginsWith keys.old.items keys.new.items) }
 {

@@ -1,15 +1,8 @@
-use Rattle.std.proofs.Common.{◌≡◌, ◌∙◌, ℕ, ◌+◌, ◌-◌, ◌≤◌, List, [], ◌∷◌, ◌++◌, ap, sym, arith}
+use Rattle.std.proofs.Common.{◌∙◌, ℕ, ◌-◌, List, [], ◌∷◌, ◌++◌, ap, sym, arith}
 use Rattle.std.specs.List.{range_with_len}
 use Rattle.std.proofs.lemmas.List.{append_assoc}
-use Rattle.partition_map.proofs.ListLemmas.{range_with_len-append}
+use Rattle.stale_test.proofs.ListLemmas.{range_with_len-push}
 use Rattle.stale_test.proofs.reached.push_run.Goals as goal
-
--- a run up to a number, with that one
-range_with_len-push : (first last : ℕ) → first ≤ last
-    → range_with_len first (last + 1 - first) ≡ range_with_len first (last - first) ++ last ∷ []
-range_with_len-push first last in_order =
-    ap (λ (many : ℕ). range_with_len first many) (omega arith)
-    ∙ range_with_len-append first (last - first) 1 last (omega arith)
 
 pub loop-part-preserved : goal.loop-part-preserved
 loop-part-preserved c =
