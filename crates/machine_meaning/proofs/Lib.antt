@@ -1,0 +1,11 @@
+pub mod EntryLemmas
+pub mod HeldLemmas
+pub mod ClaimLemmas
+pub mod PinnedLemmas
+pub mod GoodLemmas
+pub mod StepLemmas
+pub mod ContentLemmas
+pub mod FreshLemmas
+pub mod GainLemmas
+pub mod TakenLemmas
+pub mod ProgressLemmas

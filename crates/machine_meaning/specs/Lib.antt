@@ -1,0 +1,5 @@
+pub mod States
+pub mod Events
+pub mod Contents
+pub mod Claims
+pub mod Progress
