@@ -42,7 +42,7 @@ All-find P test (first ∷ xs) x all found =
     either false rest there = rest there
 
 -- the claim that an id finds has it
-claim_at-id : (id : ℕ) (claims : List Claim) (claim : Claim)
+pub claim_at-id : (id : ℕ) (claims : List Claim) (claim : Claim)
     → claim_at id claims ≡ Some claim → claim.id ≡ id
 claim_at-id id claims claim found =
     eqb-true claim.id id (find-passes (λ (claim : Claim). claim.id == id) claims claim found)

@@ -1,0 +1,12 @@
+pub mod ClaimingLemmas
+pub mod EndLemmas
+pub mod InstallLemmas
+pub mod JournalViewLemmas
+pub mod LatestLemmas
+pub mod LoadingLemmas
+pub mod NextLemmas
+pub mod PinningLemmas
+pub mod ReadingLemmas
+pub mod RestartLemmas
+pub mod SoundLemmas
+pub mod StartLemmas

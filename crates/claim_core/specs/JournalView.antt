@@ -1,0 +1,24 @@
+-- The entries of a journal, from its deliveries and the order of its steps, which are kept apart.
+use Rattle.std.specs.Prelude.{ℕ, suc, ◌≡◌, List, [], ◌∷◌, length}
+use Rattle.desc_types.specs.Deliveries.{DeliveryOf}
+use Rattle.view_meaning.specs.declared.journal.Entry.{Entry}
+use Rattle.view_meaning.specs.declared.journal.Entry.TheVariants as entry
+use Rattle.claim_core.specs.declared.step.Step.{Step}
+use Rattle.claim_core.specs.declared.step.Step.TheVariants.{Load, Install}
+
+-- how many of the steps are loads
+abbrev pub loads_in : List Step → ℕ
+loads_in [] = 0
+loads_in (Load ∷ steps) = suc (loads_in steps)
+loads_in (Install key at ∷ steps) = loads_in steps
+
+-- the entries in their order: each load takes the next delivery
+abbrev pub entries_of : List Step → List DeliveryOf → List Entry
+entries_of [] deliveries = []
+entries_of (Load ∷ steps) [] = []
+entries_of (Load ∷ steps) (delivery ∷ later) = entry.Load delivery ∷ entries_of steps later
+entries_of (Install key at ∷ steps) deliveries = entry.Install key at ∷ entries_of steps deliveries
+
+-- there is a delivery for each load
+pub record AreSteps (steps : List Step) (deliveries : List DeliveryOf) : Type 0 where
+  pub loads : loads_in steps ≡ length deliveries

@@ -1,0 +1,2 @@
+pub mod JournalView
+pub mod Cores
