@@ -42,6 +42,11 @@ refused_text line at cause =
 abbrev pub drained_text : (place : ℕ) → List ℕ
 drained_text place = codes "drained at " ++ decimal place ++ line_end
 
+-- how many versions were dropped, at a place
+abbrev pub reclaimed_text : (dropped place : ℕ) → List ℕ
+reclaimed_text dropped place =
+    codes "reclaimed " ++ decimal dropped ++ codes " at " ++ decimal place ++ line_end
+
 -- the word of a mark
 abbrev pub mark_text : Mark → List ℕ
 mark_text mark.Open = codes "open"

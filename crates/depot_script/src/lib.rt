@@ -26,4 +26,6 @@ pub use fault::CommandFault;
 pub use listings::{asides_text, marks_text};
 pub use names::{feed_name, table_name};
 pub use rows::rows_text;
-pub use texts::{answer_text, drained_text, loaded_text, part_text, refused_text, repeat_text};
+pub use texts::{
+    answer_text, drained_text, loaded_text, part_text, reclaimed_text, refused_text, repeat_text,
+};

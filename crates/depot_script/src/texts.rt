@@ -4,7 +4,7 @@
 
 ghost use Rattle.std.specs.Prelude.{◌≡◌, IfOk};
 ghost use Rattle.depot_script.specs.Texts.{answer_text, drained_text, loaded_text, part_text};
-ghost use Rattle.depot_script.specs.Texts.{refused_text, repeat_text};
+ghost use Rattle.depot_script.specs.Texts.{reclaimed_text, refused_text, repeat_text};
 
 use crate::line::Line;
 use depot_cell::Memory;
@@ -61,6 +61,16 @@ pub fn drained_text(alloc: Global, place: u64) -> Result<Vec<u8>, Memory>
     ensures exact { IfOk result (λ text. text.items ≡ drained_text place) }
 {
     Line::new(alloc).number(b"drained at ", place)?.end()
+}
+
+/// The text that tells how many versions were dropped, at this place of the journal.
+pub fn reclaimed_text(alloc: Global, dropped: u64, place: u64) -> Result<Vec<u8>, Memory>
+    ensures exact { IfOk result (λ text. text.items ≡ reclaimed_text dropped place) }
+{
+    Line::new(alloc)
+        .number(b"reclaimed ", dropped)?
+        .number(b" at ", place)?
+        .end()
 }
 
 /// The first line of an answer: its place in the journal, and how many partitions follow.

@@ -3,7 +3,7 @@
 use depot_cell::{Cell, Memory, Row, Rows};
 use depot_script::{
     BodySize, answer_text, body_size, drained_text, loaded_text, part_text, read_command,
-    refused_text, repeat_text, rows_text,
+    reclaimed_text, refused_text, repeat_text, rows_text,
 };
 use desc_lines::words_of;
 use desc_types::{AcceptedDesc, Key};
@@ -293,6 +293,7 @@ fn replies(alloc: Global) -> Result<Vec<u8>, Memory> {
     text.extend_from_slice(&refused_text(alloc, u64::MAX, None, "bad_word")?)?;
     text.extend_from_slice(&refused_text(alloc, 3, Some(12), "bad_int")?)?;
     text.extend_from_slice(&drained_text(alloc, 9)?)?;
+    text.extend_from_slice(&reclaimed_text(alloc, 4, 11)?)?;
     text.extend_from_slice(&answer_text(alloc, 9, 1)?)?;
     text.extend_from_slice(&part_text(alloc, b"t", &item, 0)?)?;
     Ok(text)
@@ -305,6 +306,7 @@ fn each_reply_is_one_line(rt: HostRuntime) -> Result<(), Fail> {
         refused 18446744073709551615 bad_word\n\
         refused 3 record 12 bad_int\n\
         drained at 9\n\
+        reclaimed 4 at 11\n\
         answer at 9 parts 1\n\
         part t 7 version 1 upto 2 mark complete rows 0\n";
     assert!(rt; replies(rt.alloc())?.as_slice() == want.as_slice());
