@@ -28,6 +28,7 @@ use Rattle.claim_core.specs.Cores.{CoreOf, HasInstallRoom, IsSound, Steps}
 use Rattle.claim_core.specs.declared.step.Step.{Step as StepOf}
 use Rattle.claim_core.specs.declared.step.Step.TheVariants.{Install}
 use Rattle.claim_core.proofs.JournalViewLemmas.{AreSteps-install}
+use Rattle.claim_core.proofs.PlaceLemmas.{placed-install}
 use Rattle.claim_core.proofs.SoundLemmas.{Steps-from}
 
 -- the partition of a good claim is of a view
@@ -136,6 +137,8 @@ pub IsSound-install : (old new : CoreOf) (steps : List StepOf) (id : ℕ) (claim
 IsSound-install old new steps id claim next entry good_claim is sound = record {
   loads = rw is.told
       (AreSteps-install steps (deliveries_of old.raw.told) claim.key claim.at sound.loads);
+  placed = rw is.told
+      (placed-install steps old.raw.told.loads claim.key claim.at sound.placed);
   good = (Steps-install old new id claim next entry sound.good good_claim is).good;
   raw = rw (is.desc, is.told) sound.raw;
   marks = rw (is.desc, is.marks, is.journal)

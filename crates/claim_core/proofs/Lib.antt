@@ -4,8 +4,11 @@ pub mod InstallLemmas
 pub mod JournalViewLemmas
 pub mod LatestLemmas
 pub mod LoadingLemmas
+pub mod MarkingLemmas
 pub mod NextLemmas
+pub mod OwnLemmas
 pub mod PinningLemmas
+pub mod PlaceLemmas
 pub mod ReadingLemmas
 pub mod RestartLemmas
 pub mod SoundLemmas

@@ -1,6 +1,6 @@
 -- Loading: what was prepared fits the core (`touched-parts`, `IsLoadCause-raw`), and a load is an
 -- event that leaves a sound core (`Steps-load`, `IsSound-load`).
-use Rattle.std.proofs.Common.{◌≡◌, ◌∙◌, ◌<◌, ◌+◌, ◌++◌, ◌∷◌, ℕ, List, [], ap, get_or, length, map, refl}
+use Rattle.std.proofs.Common.{◌≡◌, ◌∙◌, ◌<◌, ◌+◌, ◌++◌, ◌∷◌, ℕ, List, [], ap, get_or, length, refl}
 use Rattle.std.proofs.Common.{subst, sym, true}
 use Rattle.std.specs.Prelude.{All, Bool, Err, Ok, Result, false, if◌then◌else◌, is_some, nat_lt}
 use Rattle.std.specs.List.{list_any}
@@ -10,7 +10,7 @@ use Rattle.desc_types.specs.Descriptions.{DescOf}
 use Rattle.view_meaning.specs.declared.journal.Entry.{Entry}
 use Rattle.view_meaning.specs.declared.journal.Entry.TheVariants as entry
 use Rattle.view_meaning.specs.declared.journal.Loaded.{Loaded}
-use Rattle.view_meaning.specs.Journal.{FitsDelivery, accepted, is_repeat, is_same}
+use Rattle.view_meaning.specs.Journal.{accepted, is_repeat, is_same}
 use Rattle.view_meaning.specs.Loading.{loaded}
 use Rattle.view_meaning.specs.Partitions.{is_among, is_part}
 use Rattle.view_meaning.specs.SetAside.{asides_of}
@@ -29,11 +29,12 @@ use Rattle.stale_test.specs.Books.{IsReadyFor, StaleBookOf, TellsStale}
 use Rattle.machine_meaning.specs.Events.{Loads, MayLoad, with_entry}
 use Rattle.machine_meaning.specs.States.{State}
 use Rattle.claim_core.specs.Cores.{CoreOf, IsLoadCause, IsReadyToLoad, IsSound, Steps}
-use Rattle.claim_core.specs.JournalView.{AreSteps, entries_of}
+use Rattle.claim_core.specs.JournalView.{AreSteps, entries_of, loads_in, places_of}
 use Rattle.claim_core.specs.declared.step.Step.{Step as StepOf}
 use Rattle.claim_core.specs.declared.step.Step.TheVariants.{Load}
 use Rattle.claim_core.proofs.JournalViewLemmas.{AreSteps-load, deliveries_of-load}
 use Rattle.claim_core.proofs.JournalViewLemmas.{is_some-place_in}
+use Rattle.claim_core.proofs.PlaceLemmas.{RepeatsAt-told, deliveries_told, placed-load, places_told}
 use Rattle.claim_core.proofs.SoundLemmas.{Steps-from, deliveries_of-accepted}
 
 -- a prepared delivery keeps rows in partitions only
@@ -47,35 +48,38 @@ touched-parts desc before prepared tells index default within =
 
 -- the feed of a delivery has accepted its number exactly if the book has its place
 is_repeat-place_in : (journal : List Entry) (loads : List LoadOf) (delivery : DeliveryOf)
-    → map (λ (load : LoadOf). load.delivery) loads ≡ accepted journal
+    → deliveries_told loads ≡ accepted journal
     → is_repeat journal delivery ≡ is_some (place_in loads delivery.feed delivery.number)
 is_repeat-place_in journal loads delivery told =
     ap (λ (all : List DeliveryOf). list_any (is_same delivery) all) (sym told)
     ∙ sym (is_some-place_in loads delivery)
 
 -- a delivery is refused by the core as by its book of raw rows
-IsLoadCause-raw : {T : Type 0} → (journal : List Entry) (loads : List LoadOf)
-    (delivery : DeliveryOf) (result : Result T LoadFault)
-    → map (λ (load : LoadOf). load.delivery) loads ≡ accepted journal
+IsLoadCause-raw : {T : Type 0} → (journal : List Entry) (steps : List StepOf)
+    (loads : List LoadOf) (delivery : DeliveryOf) (result : Result T LoadFault)
+    → journal ≡ entries_of steps (deliveries_told loads)
+    → loads_in steps ≡ length (deliveries_told loads) → places_told loads ≡ places_of steps
+    → deliveries_told loads ≡ accepted journal
     → IsRawLoadCause loads delivery result → IsLoadCause journal delivery result
-IsLoadCause-raw journal loads delivery (Ok value) told cause =
+IsLoadCause-raw journal steps loads delivery (Ok value) are all placed told cause =
     is_repeat-place_in journal loads delivery told ∙ ap is_some cause
-IsLoadCause-raw journal loads delivery (Err (Repeat place)) told cause =
-    is_repeat-place_in journal loads delivery told ∙ ap is_some cause
-IsLoadCause-raw journal loads delivery (Err Memory) told cause =
+IsLoadCause-raw journal steps loads delivery (Err (Repeat place)) are all placed told cause =
+    RepeatsAt-told journal steps loads delivery place are all placed cause
+    (is_repeat-place_in journal loads delivery told ∙ ap is_some cause)
+IsLoadCause-raw journal steps loads delivery (Err Memory) are all placed told cause =
     is_repeat-place_in journal loads delivery told ∙ ap is_some cause
 
 -- and so of `self`, which is such a core inside
 pub IsLoadCause-core : {T : Type 0} → (core self : CoreOf) (steps : List StepOf)
     (delivery : DeliveryOf) (result : Result T LoadFault) → core ≡ self
-    → AreSteps steps (deliveries_of core.raw.told)
-    → core.state.journal ≡ entries_of steps (deliveries_of core.raw.told)
+    → IsSound core steps → core.state.journal ≡ entries_of steps (deliveries_of core.raw.told)
     → IsRawLoadCause core.raw.told.loads delivery result
     → IsLoadCause self.state.journal delivery result
-IsLoadCause-core core self steps delivery result view are journal cause =
+IsLoadCause-core core self steps delivery result view sound journal cause =
     subst (λ (self : CoreOf). IsLoadCause self.state.journal delivery result) view
-    (IsLoadCause-raw core.state.journal core.raw.told.loads delivery result
-    (deliveries_of-accepted core core steps refl are journal) cause)
+    (IsLoadCause-raw core.state.journal steps core.raw.told.loads delivery result journal
+    sound.loads.loads sound.placed
+    (deliveries_of-accepted core core steps refl sound.loads journal) cause)
 
 -- what was prepared for a core has the counts of its delivery
 pub counts_of-core : (core self : CoreOf) (steps : List StepOf) (raw : RawStateOf)
@@ -125,10 +129,9 @@ pub record AddsLoad (old new : CoreOf) (prepared : PreparedOf) (place : ℕ) : T
 -- a delivery that was prepared may be loaded
 MayLoad-prepared : (core : CoreOf) (prepared : PreparedOf)
     → deliveries_of core.raw.told ≡ accepted core.state.journal → IsReadyToLoad core prepared
-    → FitsDelivery core.desc prepared.delivery
     → MayLoad core.desc core.state.journal prepared.delivery
-MayLoad-prepared core prepared told ready fits = record {
-  fits = fits;
+MayLoad-prepared core prepared told ready = record {
+  fits = ready.fits;
   fresh = is_repeat-place_in core.state.journal core.raw.told.loads prepared.delivery told
       ∙ ap is_some ready.raw.new;
 }
@@ -136,25 +139,24 @@ MayLoad-prepared core prepared told ready fits = record {
 -- so a load is an event
 pub Steps-load : (old new : CoreOf) (steps : List StepOf) (prepared : PreparedOf) (place : ℕ)
     → deliveries_of old.raw.told ≡ accepted old.state.journal → IsSound old steps
-    → IsReadyToLoad old prepared → FitsDelivery old.desc prepared.delivery
-    → AddsLoad old new prepared place → Steps old (Loads prepared.delivery) new
-Steps-load old new steps prepared place told sound ready fits adds =
+    → IsReadyToLoad old prepared → AddsLoad old new prepared place
+    → Steps old (Loads prepared.delivery) new
+Steps-load old new steps prepared place told sound ready adds =
     Steps-from old new (Loads prepared.delivery) adds.desc sound.good
-    (MayLoad-prepared old prepared told ready fits, adds.state)
+    (MayLoad-prepared old prepared told ready, adds.state)
 
 -- after a load the book of marks tells what the journal says
 TellsMarks-load : (old new : CoreOf) (prepared : PreparedOf) (place : ℕ)
     → deliveries_of old.raw.told ≡ accepted old.state.journal
     → TellsMarks old.desc (accepted old.state.journal) old.marks
-    → IsReadyToLoad old prepared → FitsDelivery old.desc prepared.delivery
-    → AddsLoad old new prepared place
+    → IsReadyToLoad old prepared → AddsLoad old new prepared place
     → TellsMarks old.desc (accepted (with_entry old.state.journal (entry.Load prepared.delivery)))
     new.marks
-TellsMarks-load old new prepared place told tells ready fits adds =
+TellsMarks-load old new prepared place told tells ready adds =
     let delivery : DeliveryOf = prepared.delivery in
     let all : List DeliveryOf = accepted old.state.journal in
     rw (accepted-append old.state.journal (entry.Load delivery ∷ [])) (adds.marks old.desc all tells
-    fits.of_feed (MayLoad-prepared old prepared told ready fits).fresh
+    ready.fits.of_feed (MayLoad-prepared old prepared told ready).fresh
     (ready.raw.tells.asides
     ∙ ap (λ (before : List DeliveryOf). asides_of old.desc before delivery) told))
 
@@ -172,19 +174,19 @@ TellsStale-load old new prepared place told tells ready adds =
 -- a load leaves a sound core
 pub IsSound-load : (old new : CoreOf) (steps : List StepOf) (prepared : PreparedOf) (place : ℕ)
     → deliveries_of old.raw.told ≡ accepted old.state.journal → IsSound old steps
-    → IsReadyToLoad old prepared → FitsDelivery old.desc prepared.delivery
-    → AddsLoad old new prepared place → IsSound new (steps ++ Load ∷ [])
-IsSound-load old new steps prepared place told sound ready fits adds =
-    let delivery : DeliveryOf = prepared.delivery in
-    let journal : new.state.journal ≡ with_entry old.state.journal (entry.Load delivery) =
-    ap (λ (state : State). state.journal) adds.state in
+    → IsReadyToLoad old prepared → AddsLoad old new prepared place → place ≡ length steps + 1
+    → IsSound new (steps ++ Load ∷ [])
+IsSound-load old new steps prepared place told sound ready adds is =
+    let journal = ap (λ (state : State). state.journal) adds.state in
     record {
-      loads = rw (deliveries_of-load old.raw.told new.raw.told place delivery adds.loads)
-          (AreSteps-load steps (deliveries_of old.raw.told) delivery sound.loads);
-      good = (Steps-load old new steps prepared place told sound ready fits adds).good;
+      loads = rw (deliveries_of-load old.raw.told new.raw.told place prepared.delivery adds.loads)
+          (AreSteps-load steps (deliveries_of old.raw.told) prepared.delivery sound.loads);
+      placed = placed-load steps old.raw.told.loads new.raw.told.loads place prepared.delivery
+          adds.loads is sound.placed;
+      good = (Steps-load old new steps prepared place told sound ready adds).good;
       raw = rw adds.desc (adds.raw old.desc sound.raw ready.raw);
       marks = rw (adds.desc, journal)
-          (TellsMarks-load old new prepared place told sound.marks ready fits adds);
+          (TellsMarks-load old new prepared place told sound.marks ready adds);
       stale = rw (adds.desc, journal)
           (TellsStale-load old new prepared place told sound.stale ready adds);
     }

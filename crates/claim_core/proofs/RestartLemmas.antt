@@ -24,6 +24,7 @@ use Rattle.claim_core.specs.declared.step.Step.{Step as StepOf}
 use Rattle.claim_core.specs.declared.step.Step.TheVariants.{Install}
 use Rattle.claim_core.proofs.JournalViewLemmas.{AreSteps-install}
 use Rattle.claim_core.proofs.LatestLemmas.{HoldsLatest-install, made_entry, with_install_at}
+use Rattle.claim_core.proofs.PlaceLemmas.{placed-install}
 
 -- what a restart changes of a core by an install: the version that it makes is held in place of the
 -- one before
@@ -65,6 +66,7 @@ IsSound-restored old new steps key at sound found restores =
     record {
       loads = rw restores.raw
           (AreSteps-install steps (deliveries_of old.raw.told) key at sound.loads);
+      placed = rw restores.raw (placed-install steps old.raw.told.loads key at sound.placed);
       good = rw restores.desc found.good;
       raw = rw (restores.desc, restores.raw) sound.raw;
       marks = rw (restores.desc, restores.state, same, restores.marks) sound.marks;

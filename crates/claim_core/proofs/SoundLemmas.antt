@@ -127,6 +127,7 @@ pub IsSound-room : (old new : CoreOf) (steps : List StepOf) → IsSound old step
     → KeepsStale old.stale new.stale → IsSound new steps
 IsSound-room old new steps sound same told marks stale = record {
   loads = rw told sound.loads;
+  placed = rw told sound.placed;
   good = rw same.desc (IsGood-same old.desc old.state new.state same.state sound.good);
   raw = rw (same.desc, told) sound.raw;
   marks = rw (same.desc, same.state.journal)
@@ -156,6 +157,7 @@ pub IsSound-event : (old new : CoreOf) (steps : List StepOf) (event : Event) →
     → SameBooks old new → Step old.desc old.state event new.state → IsSound new steps
 IsSound-event old new steps event sound same step = record {
   loads = rw same.told sound.loads;
+  placed = rw same.told sound.placed;
   good = (Steps-from old new event same.desc sound.good step).good;
   raw = rw (same.desc, same.told) sound.raw;
   marks = rw (same.desc, same.journal, same.marks) sound.marks;

@@ -36,6 +36,7 @@ pub IsSound-start : (core : CoreOf) → core.state ≡ found [] core.state.held
     → TellsStale core.desc [] core.stale → IsSound core []
 IsSound-start core state loads holds raw marks stale = record {
   loads = record { loads = rw loads refl };
+  placed = rw loads refl;
   good = rw state (good_starts core.desc [] core.state.held (λ index default within.
       absurd (omega arith)) tt holds);
   raw = raw;

@@ -1,6 +1,6 @@
 -- The core of the machine: its state, and the room that it has.
 use Rattle.std.specs.Prelude.{ℕ, ◌≡◌, ◌<◌, List, [], ◌∷◌, Result, Ok, Err, Option, None, Some}
-use Rattle.std.specs.Prelude.{IfSome, ◌-◌, if◌then◌else◌}
+use Rattle.std.specs.Prelude.{IfSome, IsSomeAnd, ◌-◌, ◌≤◌, if◌then◌else◌}
 use Rattle.std.specs.Prelude.{Bool, filter, flat_map, length, map, slice_get, take, true, false}
 use Rattle.std.specs.Ordering.{is_gt}
 use Rattle.desc_types.specs.declared.table.Key.{Key}
@@ -13,7 +13,7 @@ use Rattle.desc_types.specs.Tables.{TableOf}
 use Rattle.view_meaning.specs.declared.journal.Entry.{Entry}
 use Rattle.view_meaning.specs.declared.request.Item.{Item}
 use Rattle.view_meaning.specs.declared.request.PinItem.{PinItem}
-use Rattle.view_meaning.specs.Journal.{accepted, is_repeat}
+use Rattle.view_meaning.specs.Journal.{FitsDelivery, accepted, delivery_of, is_repeat, is_same}
 use Rattle.view_meaning.specs.Partitions.{is_among, is_key, keys_read}
 use Rattle.view_meaning.specs.Shown.{keys_shown, shown_part}
 use Rattle.query_pin.specs.declared.dead.Dead.{Dead}
@@ -23,7 +23,7 @@ use Rattle.query_pin.specs.Inputs.{is_version}
 use Rattle.query_pin.specs.Kept.{HasRoomFor, IsFrom, KeptListOf, SameKept, entry_in, newest_in}
 use Rattle.query_pin.specs.Pins.{IsLeastFree, PinOf, PinnedOf}
 use Rattle.depot_marks.specs.MarkBooks.{HasRoom as HasMarkRoom, MarkBookOf, TellsMarks}
-use Rattle.raw_load.specs.Books.{TellsRaw, deliveries_of}
+use Rattle.raw_load.specs.Books.{LoadOf, TellsRaw, deliveries_of}
 use Rattle.raw_load.specs.declared.prepared.LoadFault.{LoadFault}
 use Rattle.raw_load.specs.declared.prepared.LoadFault.TheVariants.{Repeat, Memory}
 use Rattle.raw_load.specs.Preparing.{PreparedOf}
@@ -32,7 +32,7 @@ use Rattle.stale_test.specs.Books.{HasInstallPlaces, HasPlaces, IsReadyFor, Stal
 use Rattle.machine_meaning.specs.declared.claim.Claim.{Claim}
 use Rattle.machine_meaning.specs.Events.{Event, HoldsLatest, IsDead, Step, claim_at, found}
 use Rattle.machine_meaning.specs.States.{IsGood, IsReady, State, inputs, is_some_version, latest}
-use Rattle.claim_core.specs.JournalView.{AreSteps, entries_of}
+use Rattle.claim_core.specs.JournalView.{AreSteps, entries_of, places_of}
 use Rattle.claim_core.specs.declared.step.Step.{Step as StepOf}
 use Rattle.claim_core.specs.declared.ticket.ClaimFault.{ClaimFault}
 use Rattle.claim_core.specs.declared.ticket.ClaimFault.TheVariants as fault
@@ -86,9 +86,10 @@ core_of desc raw marks stale pins held claims steps spare = record {
   spare = spare;
 }
 
--- the books tell what the journal says, and the state is good
+-- the books tell what the journal says, each load with the place of its entry, and the state is good
 pub record IsSound (core : CoreOf) (steps : List StepOf) : Type 0 where
   pub loads : AreSteps steps (deliveries_of core.raw.told)
+  pub placed : map (λ (load : LoadOf). load.place) core.raw.told.loads ≡ places_of steps
   pub good : IsGood core.desc core.state
   pub raw : TellsRaw core.desc core.raw.told
   pub marks : TellsMarks core.desc (accepted core.state.journal) core.marks
@@ -132,15 +133,24 @@ pub record GainsRoom (old new : CoreOf) : Type 0 where
   pub state : new.state ≡ old.state
   pub raw : new.raw ≡ old.raw
 
--- a delivery was prepared for a core as it is now: it may be loaded, and there is room for it
+-- a delivery was prepared for a core as it is now: it fits, it may be loaded, and there is room
 pub record IsReadyToLoad (core : CoreOf) (prepared : PreparedOf) : Type 0 where
+  pub fits : FitsDelivery core.desc prepared.delivery
   pub raw : IsPrepared core.desc core.raw prepared
   pub beside : HasRoomBeside core prepared
 
--- a delivery is refused exactly if its feed has accepted its number
+-- a delivery is a repeat: the entry at a place, from 1, loaded one of its feed and number
+pub record RepeatsAt (journal : List Entry) (delivery : DeliveryOf) (place : ℕ) : Type 0 where
+  pub repeat : is_repeat journal delivery ≡ true
+  pub some : 1 ≤ place
+  pub there : IsSomeAnd (slice_get journal (place - 1)) (λ loaded.
+      IsSomeAnd (delivery_of loaded) (λ other. is_same delivery other ≡ true))
+
+-- a delivery is refused exactly if its feed has accepted its number, and the place of that entry
+-- is told
 abbrev pub IsLoadCause : {T : Type 0} → List Entry → DeliveryOf → Result T LoadFault → Type 0
 IsLoadCause journal delivery (Ok _) = is_repeat journal delivery ≡ false
-IsLoadCause journal delivery (Err (Repeat _)) = is_repeat journal delivery ≡ true
+IsLoadCause journal delivery (Err (Repeat place)) = RepeatsAt journal delivery place
 IsLoadCause journal delivery (Err Memory) = is_repeat journal delivery ≡ false
 
 -- whether a partition is ready

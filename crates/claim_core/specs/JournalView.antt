@@ -12,6 +12,16 @@ loads_in [] = 0
 loads_in (Load ∷ steps) = suc (loads_in steps)
 loads_in (Install key at ∷ steps) = loads_in steps
 
+-- the places of the loads among the entries, from 1, if there were so many entries before
+abbrev pub places_after : (before : ℕ) → List Step → List ℕ
+places_after before [] = []
+places_after before (Load ∷ steps) = suc before ∷ places_after (suc before) steps
+places_after before (Install key at ∷ steps) = places_after (suc before) steps
+
+-- the places of the loads
+abbrev pub places_of : List Step → List ℕ
+places_of steps = places_after 0 steps
+
 -- the entries in their order: each load takes the next delivery
 abbrev pub entries_of : List Step → List DeliveryOf → List Entry
 entries_of [] deliveries = []

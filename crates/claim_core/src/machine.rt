@@ -6,6 +6,7 @@ ghost use Rattle.claim_core.specs.Cores.{IsFound};
 mod claiming;
 mod installing;
 mod loading;
+mod marking;
 mod pinning;
 mod reading;
 mod restarting;

@@ -3,3 +3,4 @@ pub mod Events
 pub mod Contents
 pub mod Claims
 pub mod Progress
+pub mod VersionCounts

@@ -2,7 +2,7 @@
 
 ghost use Rattle.std.specs.Prelude.{◌≡◌, IfOk, IsSome, OnErr, Some};
 ghost use Rattle.machine_meaning.specs.declared.claim.Claim.{Claim as ClaimOf};
-ghost use Rattle.machine_meaning.specs.Events.{Abandons, Claims, claim_at};
+ghost use Rattle.machine_meaning.specs.Events.{Abandons, Claims, IsClaimOf, claim_at, claim_of};
 ghost use Rattle.desc_types.specs.Sources.{HasEarlierSources};
 ghost use Rattle.view_meaning.specs.Drains.{unsettled};
 ghost use Rattle.claim_core.specs.Cores.{IsClaimCause, IsFirstFrom, IsNextReady, IsTicketOf};
@@ -59,6 +59,8 @@ impl Core {
     pub fn step_claim(&mut self, alloc: Global, who: u64, key: Key) -> Result<Ticket, ClaimFault>
         ensures ok { IfOk result (λ ticket. Steps self.old (Claims who key) self.new) }
         ensures ticket { IfOk result (IsTicketOf self.old.desc self.old.state key) }
+        ensures own { IfOk result (λ ticket. IsClaimOf self.new.state who ticket.id
+            (claim_of self.old.state who ticket.id key)) }
         ensures cause { IsClaimCause self.old.desc self.old.state key result }
         ensures err { OnErr result (SameCore self.old self.new) }
     {

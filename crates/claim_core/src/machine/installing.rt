@@ -5,13 +5,25 @@ ghost use Rattle.machine_meaning.specs.declared.claim.Claim.{Claim as ClaimOf};
 ghost use Rattle.machine_meaning.specs.Events.{Installs, claim_at};
 ghost use Rattle.claim_core.specs.Cores.{HasInstallRoom, SameCore, Steps};
 
-use crate::claims::end_claim;
+use crate::claims::{end_claim, find_claim};
 use crate::machine::Core;
 use crate::step::Step;
 use depot_cell::Memory;
+use machine_meaning::Claim;
 use query_pin::Dead;
 
 impl Core {
+    /// The claim of an id.
+    fn claim(&self, id: u64) -> Claim
+        requires claim { IsSome (claim_at id self.now.state.claims) }
+        ensures exact { claim_at id self.now.state.claims ≡ Some result }
+    {
+        match find_claim(&self.claims, id) {
+            Some(claim) => claim,
+            None => unreachable!(),
+        }
+    }
+
     /// Takes all room that the install of a claim's partition needs. All is as before, also without
     /// memory.
     pub fn ready_install(&mut self, id: u64) -> Result<(), Memory>
@@ -19,7 +31,7 @@ impl Core {
         ensures ok { OnOk result (HasInstallRoom id self.new) }
         ensures kept { SameCore self.old self.new }
     {
-        let key = self.claimed(id).key;
+        let key = self.claim(id).key;
         self.order.reserve(1)?;
         self.stale.reserve_install(&self.served, key)?;
         self.kept.reserve(key)
@@ -35,7 +47,7 @@ impl Core {
             → Steps self.old (Installs claim.who id) self.new }
         ensures entry { result ≡ length self.new.state.journal }
     {
-        let claim = self.claimed(id);
+        let claim = self.claim(id);
         let (key, at) = (claim.key, claim.at);
         let entry = self.len() + 1;
         self.stale.note_install(&self.served, key, at);

@@ -19,8 +19,8 @@ use view_meaning::Loaded;
 
 impl Core {
     /// Takes all room that loading a delivery needs, and tells what loading it will do. A delivery
-    /// whose number its feed has accepted is refused. After a refusal all is as before, and the
-    /// delivery is dropped.
+    /// whose number its feed has accepted is refused, with the place of the entry that accepted it.
+    /// After a refusal all is as before, and the delivery is dropped.
     pub fn ready_load(&mut self, delivery: Delivery) -> Result<Prepared, LoadFault>
         requires fits { FitsDelivery self.old.desc delivery }
         ensures ok { IfOk result (IsReadyToLoad self.new) }
@@ -55,7 +55,6 @@ impl Core {
     /// Loads a delivery that was prepared for the core as it is now. It takes no memory.
     pub fn step_load(&mut self, prepared: Prepared) -> Loaded
         requires ready { IsReadyToLoad self.old prepared }
-        requires fits { FitsDelivery self.old.desc prepared.delivery }
         ensures step { Steps self.old (Loads prepared.delivery) self.new }
         ensures exact { result ≡ loaded self.old.desc self.old.state.journal prepared.delivery }
     {

@@ -14,7 +14,7 @@ ghost use Rattle.query_pin.specs.Kept.{entry_in};
 ghost use Rattle.query_pin.specs.Pins.{PinOf, pin_at};
 ghost use Rattle.query_pin.specs.Requests.{is_bad_range, lacks_table, request_fault};
 ghost use Rattle.machine_meaning.specs.declared.claim.Claim.{Claim as ClaimOf};
-ghost use Rattle.machine_meaning.specs.Events.{IsDead, Pins, Reclaims, Unpins};
+ghost use Rattle.machine_meaning.specs.Events.{IsDead, IsPinOf, Pins, Reclaims, Unpins};
 ghost use Rattle.claim_core.specs.Cores.{IsPinnedOf, SameCore, Steps, items_of, shown_item};
 
 use crate::machine::Core;
@@ -35,6 +35,7 @@ impl Core {
         requires accepted { request_fault self.old.desc request.now ≡ None }
         ensures ok { IfOk result (λ pinned. Steps self.old (Pins who request.now) self.new) }
         ensures exact { IfOk result (IsPinnedOf self.old.desc self.old.state request.now) }
+        ensures own { IfOk result (λ pinned. IsPinOf self.new.state who pinned.id) }
         ensures err { OnErr result (SameCore self.old self.new) }
     {
         let items = self.items_of(alloc, request)?;
@@ -78,7 +79,7 @@ impl Core {
     }
 
     /// The partitions that an item asks for.
-    fn parts_of(&self, item: Item) -> Parts
+    pub(super) fn parts_of(&self, item: Item) -> Parts
         requires there { lacks_table self.now.desc item ≡ false }
         requires range { is_bad_range item ≡ false }
         ensures exact { parts_met (table_width self.now.desc item.table) item.from item.to

@@ -1,6 +1,6 @@
 //! What the core tells. None of it changes anything.
 
-ghost use Rattle.std.specs.Prelude.{◌≡◌, ◌<◌, IfOk, IsSome, Some, length, nat_eq, slice_get, true};
+ghost use Rattle.std.specs.Prelude.{◌≡◌, ◌<◌, IfOk, Some, length, nat_eq, slice_get, true};
 ghost use Rattle.view_meaning.specs.Drains.{unsettled};
 ghost use Rattle.view_meaning.specs.Journal.{accepted};
 ghost use Rattle.view_meaning.specs.Marks.{mark_of};
@@ -107,15 +107,11 @@ impl Core {
         next_dead(&self.kept, &self.pins, from)
     }
 
-    /// The claim of an id.
-    pub fn claimed(&self, id: u64) -> Claim
-        requires claim { IsSome (claim_at id self.now.state.claims) }
-        ensures exact { claim_at id self.now.state.claims ≡ Some result }
+    /// The claim of an id, if there is one.
+    pub fn claimed(&self, id: u64) -> Option<Claim>
+        ensures exact { result ≡ claim_at id self.now.state.claims }
     {
-        match find_claim(&self.claims, id) {
-            Some(claim) => claim,
-            None => unreachable!(),
-        }
+        find_claim(&self.claims, id)
     }
 
     /// One of the versions that a claim reads or a pin keeps.

@@ -7,14 +7,14 @@ use Rattle.claim_core.proofs.machine.Core.ready_install.Goals as goal
 
 pub reserve_install-requires-clause-part : goal.reserve_install-requires-clause-part
 reserve_install-requires-clause-part c =
-    (IsGoodClaim-at _ _ c.args.id c.claimed.result c.self.invariant.good
-    (rw (← c.self.view_is) at c.claimed.ensures.exact)).may.part
+    (IsGoodClaim-at _ _ c.args.id c.claim.result c.self.invariant.good
+    (rw (← c.self.view_is) at c.claim.ensures.exact)).may.part
 
 pub reserve_install-requires-clause-view : goal.reserve_install-requires-clause-view
 reserve_install-requires-clause-view c =
-    is_raw-claimed _ _ c.claimed.result
-    (IsGoodClaim-at _ _ c.args.id c.claimed.result c.self.invariant.good
-    (rw (← c.self.view_is) at c.claimed.ensures.exact))
+    is_raw-claimed _ _ c.claim.result
+    (IsGoodClaim-at _ _ c.args.id c.claim.result c.self.invariant.good
+    (rw (← c.self.view_is) at c.claim.ensures.exact))
 
 pub invariant_of-self-in_err-reserve_install : goal.invariant_of-self-in_err-reserve_install
 invariant_of-self-in_err-reserve_install c =

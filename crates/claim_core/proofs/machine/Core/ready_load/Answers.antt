@@ -16,16 +16,16 @@ pub returns-in-Ok-reserve-clause-cause : goal.returns-in-Ok-reserve-clause-cause
 returns-in-Ok-reserve-clause-cause c =
     let result : Result PreparedOf LoadFault = Ok c.in-Ok.prepared in
     IsLoadCause-core _ c.args.self.now c.self.inside.order.items c.args.delivery result
-    c.self.view_is c.self.invariant.loads refl c.in-Ok.ensures.cause
+    c.self.view_is c.self.invariant refl c.in-Ok.ensures.cause
 
 pub returns-in-Err-reserve-clause-cause : goal.returns-in-Err-reserve-clause-cause
 returns-in-Err-reserve-clause-cause c =
     let result : Result PreparedOf LoadFault = Ok c.in-Ok.prepared in
     IsLoadCause-core _ c.args.self.now c.self.inside.order.items c.args.delivery result
-    c.self.view_is c.self.invariant.loads refl c.in-Ok.ensures.cause
+    c.self.view_is c.self.invariant refl c.in-Ok.ensures.cause
 
 pub returns-in-Err-clause-cause : goal.returns-in-Err-clause-cause
 returns-in-Err-clause-cause c =
     let result : Result PreparedOf LoadFault = Err c.in-Err.fault in
     IsLoadCause-core _ c.args.self.now c.self.inside.order.items c.args.delivery result
-    c.self.view_is c.self.invariant.loads refl c.in-Err.ensures.cause
+    c.self.view_is c.self.invariant refl c.in-Err.ensures.cause

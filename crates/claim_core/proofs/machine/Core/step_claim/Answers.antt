@@ -4,6 +4,7 @@ use Rattle.std.specs.Prelude.{vec_capacity, vec_len}
 use Rattle.machine_meaning.specs.Events.{Claims}
 use Rattle.claim_core.specs.Cores.{CoreOf, core_of}
 use Rattle.claim_core.proofs.ClaimingLemmas.{IsClaimMade, Step-Claims}
+use Rattle.claim_core.proofs.OwnLemmas.{IsClaimOf-made}
 use Rattle.claim_core.proofs.SoundLemmas.{IsSound-event, Steps-from}
 use Rattle.claim_core.proofs.machine.Core.step_claim.Goals as goal
 
@@ -55,3 +56,9 @@ returns-clause-ok c =
     c.self.invariant.good
     (Step-Claims (old_core c).desc (old_core c).state (new_core c).state _
     c.in_ok-kept.kept.items (claims c)))
+
+pub returns-clause-own : goal.returns-clause-own
+returns-clause-own c =
+    rw (← c.self.view_is)
+    (IsClaimOf-made (old_core c).desc (old_core c).state (new_core c).state _
+    c.in_ok-kept.kept.items c.self.invariant.good (claims c))

@@ -19,29 +19,29 @@ use Rattle.claim_core.proofs.machine.Core.step_install.Goals as goal
 
 pub note_install-requires-clause-part : goal.note_install-requires-clause-part
 note_install-requires-clause-part c =
-    (IsGoodClaim-at _ _ c.args.id c.claimed-claim.result c.self.invariant.good
-    (rw (← c.self.view_is) at c.claimed-claim.ensures.exact)).may.part
+    (IsGoodClaim-at _ _ c.args.id c.claim-claim.result c.self.invariant.good
+    (rw (← c.self.view_is) at c.claim-claim.ensures.exact)).may.part
 
 pub note_install-requires-clause-view : goal.note_install-requires-clause-view
 note_install-requires-clause-view c =
-    is_raw-claimed _ _ c.claimed-claim.result
-    (IsGoodClaim-at _ _ c.args.id c.claimed-claim.result c.self.invariant.good
-    (rw (← c.self.view_is) at c.claimed-claim.ensures.exact))
+    is_raw-claimed _ _ c.claim-claim.result
+    (IsGoodClaim-at _ _ c.args.id c.claim-claim.result c.self.invariant.good
+    (rw (← c.self.view_is) at c.claim-claim.ensures.exact))
 
 pub note_install-requires-clause-past : goal.note_install-requires-clause-past
 note_install-requires-clause-past c =
     rw c.self.invariant.stale.entries
-    (IsGoodClaim-at _ _ c.args.id c.claimed-claim.result c.self.invariant.good
-    (rw (← c.self.view_is) at c.claimed-claim.ensures.exact)).may.past
+    (IsGoodClaim-at _ _ c.args.id c.claim-claim.result c.self.invariant.good
+    (rw (← c.self.view_is) at c.claim-claim.ensures.exact)).may.past
 
 pub add-requires-clause-newer : goal.add-requires-clause-newer
 add-requires-clause-newer c =
-    let found = rw (← c.self.view_is) at c.claimed-claim.ensures.exact in
+    let found = rw (← c.self.view_is) at c.claim-claim.ensures.exact in
     let room = rw (← c.self.view_is) at c.requires.room in
-    newer-claimed _ _ c.claimed-claim.result c.version-version.result c.self.invariant.good
-    (IsGoodClaim-at _ _ c.args.id c.claimed-claim.result c.self.invariant.good found)
+    newer-claimed _ _ c.claim-claim.result c.version-version.result c.self.invariant.good
+    (IsGoodClaim-at _ _ c.args.id c.claim-claim.result c.self.invariant.good found)
     (c.version-version.ensures.exact _ _
-    (c.note_install.ensures.exact _ (walked-claimed _ c.args.id c.claimed-claim.result found room)
+    (c.note_install.ensures.exact _ (walked-claimed _ c.args.id c.claim-claim.result found room)
     c.self.invariant.stale))
 
 pub unpin-requires : goal.unpin-requires
@@ -60,34 +60,34 @@ abbrev new_core : goal.In-Ok → CoreOf
 new_core c = core_of c.self.inside.served.desc c.self.inside.raw c.self.inside.marks
     c.note_install.new.self c.unpin.new.self.pins c.add.new.self c.end_claim.new.claims.items
     (c.self.inside.order.items
-    ++ Install c.claimed-claim.result.key c.claimed-claim.result.at ∷ [])
+    ++ Install c.claim-claim.result.key c.claim-claim.result.at ∷ [])
     (vec_capacity c.push.new.self - vec_len c.push.new.self)
 
 -- the claim may be installed
 good_claim : (c : goal.In-Ok)
-    → IsGoodClaim (old_core c).desc (old_core c).state c.claimed-claim.result
+    → IsGoodClaim (old_core c).desc (old_core c).state c.claim-claim.result
 good_claim c =
-    IsGoodClaim-at (old_core c).desc (old_core c).state c.args.id c.claimed-claim.result
-    c.self.invariant.good (rw (← c.self.view_is) at c.claimed-claim.ensures.exact)
+    IsGoodClaim-at (old_core c).desc (old_core c).state c.args.id c.claim-claim.result
+    c.self.invariant.good (rw (← c.self.view_is) at c.claim-claim.ensures.exact)
 
 -- the calls installed its partition
-installs : (c : goal.In-Ok) → IsInstall (old_core c) (new_core c) c.args.id c.claimed-claim.result
+installs : (c : goal.In-Ok) → IsInstall (old_core c) (new_core c) c.args.id c.claim-claim.result
     c.version-version.result (c.len-entry.result + 1)
 installs c =
-    let found = rw (← c.self.view_is) at c.claimed-claim.ensures.exact in
+    let found = rw (← c.self.view_is) at c.claim-claim.ensures.exact in
     let room = rw (← c.self.view_is) at c.requires.room in
     let place : c.len-entry.result ≡ length (old_core c).state.journal =
     rw (← c.self.view_is) at c.len-entry.ensures.exact in
     let tells = c.note_install.ensures.exact _
-    (walked-claimed _ c.args.id c.claimed-claim.result found room) c.self.invariant.stale in
+    (walked-claimed _ c.args.id c.claim-claim.result found room) c.self.invariant.stale in
     record {
       found = found;
       desc = refl;
       told = refl;
       marks = refl;
       journal = entries_of-install c.self.inside.order.items
-          (deliveries_of c.self.inside.raw.told) c.claimed-claim.result.key
-          c.claimed-claim.result.at c.self.invariant.loads.loads;
+          (deliveries_of c.self.inside.raw.told) c.claim-claim.result.key
+          c.claim-claim.result.at c.self.invariant.loads.loads;
       claims = c.end_claim.ensures.exact;
       pins = c.unpin.ensures.exact;
       stale = tells;
@@ -100,15 +100,15 @@ pub invariant_of-self : goal.invariant_of-self
 invariant_of-self c =
     rw c.in-Ok.ensures.items
     (IsSound-install (old_core c) (new_core c) c.self.inside.order.items c.args.id
-    c.claimed-claim.result c.version-version.result (c.len-entry.result + 1) (good_claim c)
+    c.claim-claim.result c.version-version.result (c.len-entry.result + 1) (good_claim c)
     (installs c) c.self.invariant)
 
 pub returns-clause-step : goal.returns-clause-step
 returns-clause-step c = λ claim found.
     rw (← c.self.view_is, c.in-Ok.ensures.items)
     (subst (λ (claim : Claim). Steps (old_core c) (Installs claim.who c.args.id) (new_core c))
-    (same_Some c.claimed-claim.result claim (sym c.claimed-claim.ensures.exact ∙ found))
-    (Steps-install (old_core c) (new_core c) c.args.id c.claimed-claim.result
+    (same_Some c.claim-claim.result claim (sym c.claim-claim.ensures.exact ∙ found))
+    (Steps-install (old_core c) (new_core c) c.args.id c.claim-claim.result
     c.version-version.result (c.len-entry.result + 1) c.self.invariant.good (good_claim c)
     (installs c)))
 
@@ -120,6 +120,6 @@ returns-clause-entry c =
     rw (
       c.in-Ok.ensures.items,
       entries_of-install c.self.inside.order.items (deliveries_of c.self.inside.raw.told)
-          c.claimed-claim.result.key c.claimed-claim.result.at c.self.invariant.loads.loads,
+          c.claim-claim.result.key c.claim-claim.result.at c.self.invariant.loads.loads,
     )
-    (omega (arith, place, length_push journal (install_of c.claimed-claim.result)))
+    (omega (arith, place, length_push journal (install_of c.claim-claim.result)))

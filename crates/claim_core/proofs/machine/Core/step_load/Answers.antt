@@ -1,10 +1,12 @@
 -- A load adds a step and a delivery.
-use Rattle.std.proofs.Common.{◌≡◌, ◌+◌, ◌-◌, refl, subst, sym}
+use Rattle.std.proofs.Common.{◌≡◌, ◌∙◌, ◌+◌, ◌-◌, ℕ, ap, length, refl, subst, sym}
 use Rattle.std.specs.Vec.{vec_capacity, vec_len}
 use Rattle.view_meaning.specs.Journal.{accepted}
 use Rattle.raw_load.specs.Books.{deliveries_of}
 use Rattle.claim_core.specs.Cores.{CoreOf, IsSound, core_of}
+use Rattle.claim_core.specs.JournalView.{entries_of}
 use Rattle.claim_core.proofs.JournalViewLemmas.{deliveries_of-load, entries_of-load}
+use Rattle.claim_core.proofs.JournalViewLemmas.{length-entries_of}
 use Rattle.claim_core.proofs.LoadingLemmas.{AddsLoad, IsSound-load, Steps-load, loaded-prepared}
 use Rattle.claim_core.proofs.SoundLemmas.{deliveries_of-accepted}
 use Rattle.claim_core.proofs.machine.Core.step_load.Goals as goal
@@ -35,6 +37,14 @@ adds c = record {
   stale = rw (← c.self.view_is, ← c.touched.ensures.exact) c.note_load.ensures.exact;
 }
 
+-- its place is after all steps
+place_is : (c : goal.In-Ok) → c.len-entry.result + 1 ≡ length c.self.inside.order.items + 1
+place_is c =
+    let place : c.len-entry.result ≡ length (entries_of c.self.inside.order.items
+    (deliveries_of c.self.inside.raw.told)) = rw (← c.self.view_is) at c.len-entry.ensures.exact in
+    ap (λ (place : ℕ). place + 1) (place ∙ length-entries_of c.self.inside.order.items
+    (deliveries_of c.self.inside.raw.told) c.self.invariant.loads.loads)
+
 -- the core is sound before
 sound : (c : goal.In-Ok) → IsSound c.args.self.now c.self.inside.order.items
 sound c = rw (← c.self.view_is) c.self.invariant
@@ -49,12 +59,12 @@ pub invariant_of-self : goal.invariant_of-self
 invariant_of-self c =
     subst (IsSound (loaded_core c)) (sym c.in-Ok.ensures.items)
     (IsSound-load c.args.self.now (loaded_core c) c.self.inside.order.items c.args.prepared
-    (c.len-entry.result + 1) (told c) (sound c) c.requires.ready c.requires.fits (adds c))
+    (c.len-entry.result + 1) (told c) (sound c) c.requires.ready (adds c) (place_is c))
 
 pub returns-clause-step : goal.returns-clause-step
 returns-clause-step c =
     Steps-load c.args.self.now (loaded_core c) c.self.inside.order.items c.args.prepared
-    (c.len-entry.result + 1) (told c) (sound c) c.requires.ready c.requires.fits (adds c)
+    (c.len-entry.result + 1) (told c) (sound c) c.requires.ready (adds c)
 
 pub returns-clause-exact : goal.returns-clause-exact
 returns-clause-exact c =
