@@ -1,9 +1,9 @@
-pub mod KnownLemmas
-pub mod SameKeysLemmas
-pub mod JournalViewLemmas
-pub mod TouchedLemmas
-pub mod InstalledLemmas
+pub mod VersionCountLemmas
+pub mod ContentsLemmas
 pub mod KeptLemmas
-pub mod KeptRowsLemmas
-pub mod SettledLemmas
+pub mod ReadLemmas
+pub mod ClaimedLemmas
 pub mod DrainingLemmas
+pub mod LastInstallLemmas
+pub mod ReclaimLemmas
+pub mod PinningLemmas

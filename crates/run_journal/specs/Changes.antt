@@ -1,67 +1,43 @@
--- What the steps of a load, an install and a drain change of a journal.
-use Rattle.std.specs.Prelude.{◌≡◌, ◌<◌, ◌+◌, All, List, [], ◌∷◌, ◌++◌, Some, false, length}
+-- What the steps of an install change: a partition is claimed, and then there is room to install it.
+use Rattle.std.specs.Prelude.{ℕ, suc, ◌≡◌, ◌+◌, [], ◌∷◌, Some, None, false, length, slice_get}
 use Rattle.std.specs.Prelude.{if◌then◌else◌}
-use Rattle.std.specs.List.{list_any}
-use Rattle.std.specs.Ordering.{is_eq}
-use Rattle.depot_cell.specs.declared.cell.Cell.{Cell}
-use Rattle.desc_types.specs.declared.table.Key.{Key}
-use Rattle.desc_types.specs.Deliveries.{DeliveryOf}
-use Rattle.desc_types.specs.Descriptions.{DescOf}
-use Rattle.desc_types.specs.Keys.{key_cmp}
-use Rattle.view_meaning.specs.Drains.{with_install}
-use Rattle.view_meaning.specs.Journal.{is_same}
-use Rattle.view_meaning.specs.SetAside.{asides_of}
-use Rattle.depot_marks.specs.MarkBooks.{HasRoom as HasMarkRoom, MarkBookOf, TellsMarks}
-use Rattle.raw_load.specs.Preparing.{PreparedOf}
-use Rattle.run_journal.specs.KeptJournals.{JournalOf, is_touched}
-use Rattle.run_journal.specs.KeptVersions.{latest_in, number_in}
-use Rattle.run_journal.specs.Touched.{HasPlace}
+use Rattle.view_meaning.specs.Contents.{latest_content}
+use Rattle.view_meaning.specs.Journal.{accepted}
+use Rattle.view_meaning.specs.Values.{value_over}
+use Rattle.view_meaning.specs.Versions.{is_raw}
+use Rattle.query_pin.specs.Pins.{with_pin}
+use Rattle.machine_meaning.specs.States.{IsGood, inputs, pin_of}
+use Rattle.machine_meaning.specs.Events.{claim_of}
+use Rattle.claim_core.specs.Cores.{HasInstallRoom, SameCore, TicketOf, left_inputs}
+use Rattle.run_journal.specs.KeptJournals.{JournalOf, KeepsContents, content_in, entries_of}
+use Rattle.run_journal.specs.KeptJournals.{is_entry}
 
--- beside its raw rows a journal has room for a delivery that was prepared
-pub record HasRoomBeside (journal : JournalOf) (prepared : PreparedOf) : Type 0 where
-  pub marks : HasMarkRoom prepared.delivery prepared.asides journal.marks
-  pub touched : All (HasPlace journal.touched) prepared.touched
-  pub step : 0 < journal.spare
+-- the number of the only one that claims
+abbrev pub WORKER : ℕ
+WORKER = 0
 
--- beside its raw rows a journal may have room that it had not, and it tells what it told before
-pub record GainsRoom (old new : JournalOf) : Type 0 where
-  pub entries : new.entries ≡ old.entries
-  pub fresh : new.fresh ≡ old.fresh
-  pub versions : new.versions ≡ old.versions
-  pub raw : new.raw ≡ old.raw
-  pub touched : (key : Key) → is_touched new key ≡ is_touched old key
-  pub marks : (desc : DescOf) (accepted : List DeliveryOf)
-      → TellsMarks desc accepted old.marks → TellsMarks desc accepted new.marks
+-- just one partition is claimed, that of a ticket, and nothing else is pinned
+pub record IsClaimedIn (journal : JournalOf) (ticket : TicketOf) : Type 0 where
+  pub good : IsGood journal.core.desc journal.core.state
+  pub contents : KeepsContents journal.core.desc journal.core.state journal.contents
+  pub claims : journal.core.state.claims
+      ≡ claim_of journal.core.state WORKER ticket.id ticket.key ∷ []
+  pub pins : journal.core.state.pins ≡ with_pin ticket.id (pin_of journal.core.desc
+      (entries_of journal) (claim_of journal.core.state WORKER ticket.id ticket.key)) []
+  pub view : is_raw (slice_get journal.core.desc.tables ticket.key.table) ≡ false
+  pub inputs : ticket.inputs ≡ inputs journal.core.desc (entries_of journal) ticket.key
+  pub left : ticket.left ≡ length (left_inputs journal.core.desc (entries_of journal) ticket.key)
 
--- a book of marks that told the marks after deliveries tells those after one more, which was prepared
--- and is new
-abbrev pub NotesLoad : PreparedOf → (old new : MarkBookOf) → Type 0
-NotesLoad prepared old new = (desc : DescOf) (accepted : List DeliveryOf)
-    → TellsMarks desc accepted old
-    → prepared.delivery.feed < length desc.feeds
-    → list_any (is_same prepared.delivery) accepted ≡ false
-    → prepared.asides ≡ asides_of desc accepted prepared.delivery
-    → TellsMarks desc (accepted ++ prepared.delivery ∷ []) new
-
--- an install of a partition gives it these rows as its next version, and changes nothing else
-pub record InstallsRows (old new : JournalOf) (key : Key) (rows : List (List Cell)) : Type 0 where
-  pub entries : new.entries ≡ with_install old.entries key
-  pub fresh : new.fresh ≡ old.fresh
-  pub raw : new.raw ≡ old.raw
-  pub marks : new.marks ≡ old.marks
-  pub touched : new.touched ≡ old.touched
-  pub found : (other : Key) → latest_in new.versions other
-      ≡ (if is_eq (key_cmp key other) then Some (record {
-        number = number_in (latest_in old.versions key) + 1;
-        at = length old.entries;
-        rows = rows;
-      }) else latest_in old.versions other)
-
--- after a drain no delivery is fresh, and no partition is touched
-pub record Settles (old new : JournalOf) : Type 0 where
-  pub entries : new.entries ≡ old.entries
-  pub fresh : new.fresh ≡ []
-  pub versions : new.versions ≡ old.versions
-  pub raw : new.raw ≡ old.raw
-  pub marks : new.marks ≡ old.marks
-  pub touched : new.touched ≡ []
+-- there is room to install the partition of a ticket, and its rows stand under the entry to come,
+-- made of the latest versions of its sources
+pub record IsFilled (old new : JournalOf) (ticket : TicketOf) : Type 0 where
+  pub core : SameCore old.core new.core
+  pub room : HasInstallRoom ticket.id new.core
+  pub contents : (entry : ℕ) → content_in new.contents entry
+      ≡ (if is_entry (length (entries_of old) + 1) entry
+      then Some (value_over old.core.desc (accepted (entries_of old))
+      (latest_content old.core.desc (entries_of old)) ticket.key
+      (slice_get old.core.desc.tables ticket.key.table))
+      else content_in old.contents entry)
+  pub more : content_in old.contents (length (entries_of old) + 1) ≡ None
+      → length new.contents ≡ suc (length old.contents)

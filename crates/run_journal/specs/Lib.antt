@@ -1,5 +1,3 @@
-pub mod KeptVersions
-pub mod JournalView
-pub mod Touched
 pub mod KeptJournals
 pub mod Changes
+pub mod Pinning

@@ -1,20 +1,15 @@
-//! The journal of a run, in memory, with what it has computed.
+//! The journal of a run, in memory: the core of the machine, with the rows of what it holds.
 //!
-//! It stands in for the machine of claims and installs: one thread loads deliveries, and a drain
-//! computes each partition of a view that is not settled from the rows that are kept of the
-//! partitions that it reads. So an install costs what its own sources hold, whatever lies below
-//! them and whatever was loaded before.
+//! One thread loads deliveries. A drain claims one partition after another, computes it from the
+//! versions that its claim tells, and installs it. So an install costs what its own sources hold,
+//! whatever lies below them and whatever was loaded before.
 #![tactic(auto)]
 
-mod computing;
+mod content;
+mod contents;
 mod draining;
 mod journal;
-mod sources;
-mod step;
-mod touched;
-mod version;
-mod versions;
 
+pub use content::Content;
 pub use draining::drain;
 pub use journal::Journal;
-pub use version::Version;

@@ -1,10 +1,15 @@
--- At the start nothing is kept.
-use Rattle.std.proofs.Common.{refl}
-use Rattle.run_journal.proofs.KeptLemmas.{IsKept-start}
+-- A core of no entries is kept, with no rows.
+use Rattle.std.proofs.Common.{ap, refl}
+use Rattle.machine_meaning.specs.States.{State}
+use Rattle.run_journal.proofs.KeptLemmas.{IsKept-found}
 use Rattle.run_journal.proofs.journal.Journal.new.Goals as goal
 
-pub returns-clause-kept : goal.returns-clause-kept
-returns-clause-kept c =
-    IsKept-start c.args.served.now.desc _ (rw c.new-3.ensures.items refl)
-    (rw c.in_ok-new.ensures.loads refl) c.new-5.ensures.exact c.new-4.ensures.empty
-    c.in_ok-new.ensures.loads c.in_ok-new.ensures.tells c.in_ok-new-2.ensures.exact
+pub returns-in-Ok : goal.returns-in-Ok
+returns-in-Ok c =
+    let none = ap (λ (state : State). state.journal) c.in-Ok.ensures.ok.state in
+    record {
+      entries = none;
+      reclaimed = rw (none, c.new-in-Ok.ensures.exact) refl;
+      kept = rw c.new-in-Ok.ensures.exact (IsKept-found c.args.served.desc c.in-Ok.core
+          c.args.served.is_served.earlier c.in-Ok.ensures.ok);
+    }
