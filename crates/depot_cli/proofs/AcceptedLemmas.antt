@@ -1,7 +1,7 @@
 -- A reading that serves is accepted: `IsAccepted-reading`. Each line asks for what fits the
 -- description, so each step does, and so does the journal.
 use Rattle.std.proofs.Common.{◌≡◌, ℕ, zero, suc, ◌<◌, ◌≤◌, List, [], ◌∷◌, length}
-use Rattle.std.proofs.Common.{Bool, true, false, refl, subst, inl, inr, arith}
+use Rattle.std.proofs.Common.{Bool, true, false, refl, ap, subst, inl, inr, arith}
 use Rattle.std.specs.Prelude.{Option, Some, None, Result, Ok, Err, All, ⊤, if◌then◌else◌}
 use Rattle.std.specs.Prelude.{is_none, nat_lt, unwrap_or}
 use Rattle.std.specs.Str.{bytes_eq}
@@ -15,6 +15,7 @@ use Rattle.desc_lines.specs.Words.{begins_comment, words}
 use Rattle.desc_types.specs.declared.table.Feed.{Feed}
 use Rattle.desc_types.specs.declared.delivery.DRow.{DRow}
 use Rattle.table_desc.specs.declared.fault.BadLine.{BadLine}
+use Rattle.desc_types.specs.Deliveries.{DeliveryOf}
 use Rattle.desc_types.specs.Descriptions.{DescOf}
 use Rattle.desc_types.specs.Accepted.{IsAccepted as IsAcceptedDesc}
 use Rattle.table_desc.specs.Drafts.{drafted}
@@ -28,7 +29,7 @@ use Rattle.view_meaning.proofs.FitLemmas.{FitsJournal-drained, FitsJournal-push}
 use Rattle.query_pin.specs.declared.request.RequestFault.{RequestFault}
 use Rattle.query_pin.specs.Requests.{request_fault}
 use Rattle.feed_csv.specs.declared.fault.BadRecord.{BadRecord}
-use Rattle.feed_csv.specs.Bodies.{delivery_with, rows_of}
+use Rattle.feed_csv.specs.Bodies.{delivery_of, delivery_with, rows_of}
 use Rattle.feed_csv.proofs.RowLemmas.{rows_fit}
 use Rattle.depot_script.specs.declared.body.BodySize.{BodySize}
 use Rattle.depot_script.specs.declared.body.BodySize.TheVariants as body
@@ -44,8 +45,7 @@ use Rattle.depot_script.specs.Written.{WrittenCommandOf, command_of, is_command}
 use Rattle.depot_script.specs.Written as written
 use Rattle.depot_cli.specs.declared.script.work.Work.{Work}
 use Rattle.depot_cli.specs.declared.script.work.Work.TheVariants as work
-use Rattle.depot_cli.specs.declared.script.work.Refusal.TheVariants as refusal
-use Rattle.depot_cli.specs.Items.{asked, asking, is_end, is_later, loading, work_of}
+use Rattle.depot_cli.specs.Items.{asked, asking, is_end, loading, work_of}
 use Rattle.depot_cli.specs.Reading.{NextLine, NoLine, Unreadable, Line, NextBody, Unfinished, Body}
 use Rattle.depot_cli.specs.Reading.{OpeningEnd, Go, Broken, Serving, Session, Step, Ends, Ended}
 use Rattle.depot_cli.specs.Reading.{Does, body_due, body_step, line_due, line_step}
@@ -65,6 +65,7 @@ FitsWork desc work.Drain = ⊤
 FitsWork desc (work.Query items) = ⊤
 FitsWork desc (work.Marks items) = ⊤
 FitsWork desc (work.Aside feed) = ⊤
+FitsWork desc work.Reclaim = ⊤
 
 -- what a step does fits
 abbrev FitsStep : DescOf → Step → Type 0
@@ -194,6 +195,16 @@ FitsWork-loading desc feed number closes body_ (Ok rows) accepted fits read =
     }
 FitsWork-loading desc feed number closes body_ (Err bad) accepted fits read = tt
 
+-- so does a delivery that was read of a body
+pub FitsDelivery-read : (desc : DescOf) (feed number closes : ℕ) (body_ : List ℕ)
+    (delivery : DeliveryOf)
+    → IsAcceptedDesc desc → FitsNumbers desc feed number closes
+    → delivery_of desc feed number closes body_ ≡ Ok delivery
+    → FitsDelivery desc delivery
+FitsDelivery-read desc feed number closes body_ delivery accepted fits read =
+    subst (FitsWork desc) (ap loading read)
+    (FitsWork-loading desc feed number closes body_ (rows_of desc feed body_) accepted fits refl)
+
 -- what a request asks for fits if that does
 FitsWork-asking : (desc : DescOf) (its_work : Work) (cause : Option RequestFault)
     → FitsWork desc its_work → FitsWork desc (asking its_work cause)
@@ -220,12 +231,8 @@ FitsWork-asked desc command.End body_ accepted fits = tt
 FitsWork-work_of : (desc : DescOf) (read : Result CommandOf CommandFault) (body_ : List ℕ)
     → IsAcceptedDesc desc → FitsLine desc read → FitsWork desc (work_of desc read body_)
 FitsWork-work_of desc (Err cause) body_ accepted fits = tt
-FitsWork-work_of desc (Ok its_command) body_ accepted fits = by_test (is_later its_command)
-  where
-    by_test : (later : Bool) → FitsWork desc
-        (if later then work.Refused refusal.Later else asked desc its_command body_)
-    by_test true = tt
-    by_test false = FitsWork-asked desc its_command body_ accepted fits
+FitsWork-work_of desc (Ok its_command) body_ accepted fits =
+    FitsWork-asked desc its_command body_ accepted fits
 
 -- what is done at a line without a body fits
 FitsStep-bare : (desc : DescOf) (ends : Bool) (item : Work) (due taken : ℕ) (rest : List ℕ)
@@ -297,6 +304,7 @@ FitsJournal-journal_after desc journal work.Drain fits also = FitsJournal-draine
 FitsJournal-journal_after desc journal (work.Query items) fits also = fits
 FitsJournal-journal_after desc journal (work.Marks items) fits also = fits
 FitsJournal-journal_after desc journal (work.Aside feed) fits also = fits
+FitsJournal-journal_after desc journal work.Reclaim fits also = fits
 
 -- so do all items
 FitsJournal-serial : (desc : DescOf) (journal : List Entry) (items : List Work)

@@ -7,7 +7,6 @@ use Rattle.std.specs.Prelude.{IfSome, Option, Some, Ok, Err, All}
 use Rattle.std.specs.Io.KnownBytes.{Appends}
 use Rattle.std.proofs.KnownBytes.{Appends-nil, Appends-trans}
 use Rattle.desc_types.specs.Descriptions.{DescOf}
-use Rattle.view_meaning.specs.declared.journal.Entry.{Entry}
 use Rattle.depot_io.specs.Puts.{GainsPrefix, HasRoomFor, room_after}
 use Rattle.depot_cli.proofs.RoomLemmas.{HasRoomFor-next, IsReplyRoom-Err, length-replies_front}
 use Rattle.depot_cli.specs.declared.script.ScriptFault.{ScriptFault}
@@ -18,36 +17,36 @@ use Rattle.depot_cli.specs.declared.script.work.Work.{Work}
 use Rattle.depot_cli.specs.Reading.{Serving, Session, Step, Does, session, session_at, session_from}
 use Rattle.depot_cli.specs.Reading.{step_of}
 use Rattle.depot_cli.specs.ScriptCalls.{IsLeftOf, IsReplied, IsReplyRoom, IsStep, status_of_fault}
-use Rattle.depot_cli.specs.SerialJournal.{serial}
+use Rattle.depot_cli.specs.SerialJournal.{Made, made_by, nothing}
 use Rattle.depot_cli.specs.Replies.{replies, reply}
 use Rattle.depot_cli.specs.Runs.{GainsFront, GainsTaken, IsRun, first_replies, reply_at}
-use Rattle.run_journal.proofs.KnownLemmas.{IfSome-known}
+use Rattle.depot_cli.proofs.KnownLemmas.{IfSome-known}
 use Rattle.depot_cli.proofs.DueLemmas.{All-undone, All-untaken}
 use Rattle.depot_cli.proofs.SessionLemmas.{Appends-reply, HasServed, after_items, session_next}
 
 -- the replies to the items in front of others
 first_replies-served : (desc : DescOf) (session : Session) (items more : List Work)
     → session.items ≡ items ++ more
-    → replies desc 1 [] items ≡ first_replies desc session (length items)
+    → replies desc 1 nothing items ≡ first_replies desc session (length items)
 first_replies-served desc session items more splits =
-    ap (λ (items : List Work). replies desc 1 [] items)
+    ap (λ (items : List Work). replies desc 1 nothing items)
     (sym (ap (λ (all : List Work). take (length items) all) splits ∙ take-append_seam items more))
 
 -- the reply to the item after others
 reply_at-served : (desc : DescOf) (session : Session) (items more : List Work) (work : Work)
     → session.items ≡ items ++ work ∷ more
-    → reply desc (1 + length items) (serial desc [] items) work
+    → reply desc (1 + length items) (made_by desc nothing items) work
     ≡ reply_at desc session (length items)
 reply_at-served desc session items more work splits =
-    sym (ap (λ (front : List Work). replies desc (1 + length items) (serial desc [] front)
+    sym (ap (λ (front : List Work). replies desc (1 + length items) (made_by desc nothing front)
     (take 1 (drop (length items) session.items)))
     (ap (λ (all : List Work). take (length items) all) splits
     ∙ take-append_seam items (work ∷ more))
-    ∙ ap (λ (behind : List Work). replies desc (1 + length items) (serial desc [] items)
+    ∙ ap (λ (behind : List Work). replies desc (1 + length items) (made_by desc nothing items)
     (take 1 behind))
     (ap (λ (all : List Work). drop (length items) all) splits
     ∙ drop-append_seam items (work ∷ more))
-    ∙ append-nil (reply desc (1 + length items) (serial desc [] items) work))
+    ∙ append-nil (reply desc (1 + length items) (made_by desc nothing items) work))
 
 -- items are no more than they are with others after them
 length-front : (all items more : List Work) → all ≡ items ++ more → length items ≤ length all
@@ -57,7 +56,7 @@ length-front all items more splits = omega (arith, ap length splits, length-appe
 GainsFront-served : (desc : DescOf) (session : Session) (items more : List Work)
     (got_before got_now : Option (List ℕ))
     → session.items ≡ items ++ more
-    → Appends got_before got_now (replies desc 1 [] items)
+    → Appends got_before got_now (replies desc 1 nothing items)
     → GainsFront desc session got_before got_now
 GainsFront-served desc session items more got_before got_now splits replied = record {
   many = length items;
@@ -79,8 +78,8 @@ GainsFront-start desc session got =
 GainsFront-cut : (desc : DescOf) (session : Session) (items more : List Work) (work : Work)
     (got_before got_now got_next : Option (List ℕ))
     → session.items ≡ items ++ work ∷ more
-    → Appends got_before got_now (replies desc 1 [] items)
-    → GainsPrefix got_now got_next (reply desc (1 + length items) (serial desc [] items) work)
+    → Appends got_before got_now (replies desc 1 nothing items)
+    → GainsPrefix got_now got_next (reply desc (1 + length items) (made_by desc nothing items) work)
     → GainsFront desc session got_before got_next
 GainsFront-cut desc session items more work got_before got_now got_next splits replied cut =
     record {
@@ -89,13 +88,13 @@ GainsFront-cut desc session items more work got_before got_now got_next splits r
       front = cut.count;
       gained = subst (λ (text : List ℕ). Appends got_before got_next text)
           (ap (λ (text : List ℕ). text
-          ++ take cut.count (reply desc (1 + length items) (serial desc [] items) work))
+          ++ take cut.count (reply desc (1 + length items) (made_by desc nothing items) work))
           (first_replies-served desc session items (work ∷ more) splits)
           ∙ ap (λ (text : List ℕ). first_replies desc session (length items)
           ++ take cut.count text)
           (reply_at-served desc session items more work splits))
-          (Appends-trans got_before got_now got_next (replies desc 1 [] items)
-          (take cut.count (reply desc (1 + length items) (serial desc [] items) work))
+          (Appends-trans got_before got_now got_next (replies desc 1 nothing items)
+          (take cut.count (reply desc (1 + length items) (made_by desc nothing items) work))
           replied cut.gained);
     }
 
@@ -104,7 +103,7 @@ GainsTaken-served : (desc : DescOf) (session : Session) (items more : List Work)
     (dues others : List ℕ) (got_before got_now left : Option (List ℕ))
     → session.items ≡ items ++ more → session.dues ≡ dues ++ others
     → length dues ≡ length items
-    → Appends got_before got_now (replies desc 1 [] items)
+    → Appends got_before got_now (replies desc 1 nothing items)
     → All (λ (due : ℕ). IsLeftOf left due) others
     → GainsTaken desc session got_before got_now left
 GainsTaken-served desc session items more dues others got_before got_now left splits dues_split
@@ -131,10 +130,10 @@ GainsTaken-start desc base bytes got left is_left =
 
 -- where a session ends after items, the replies to them are those to all
 replies-all : (desc : DescOf) (items : List Work) (got_before got_now : Option (List ℕ))
-    → Appends got_before got_now (replies desc 1 [] items)
-    → Appends got_before got_now (replies desc 1 [] (items ++ []))
+    → Appends got_before got_now (replies desc 1 nothing items)
+    → Appends got_before got_now (replies desc 1 nothing (items ++ []))
 replies-all desc items got_before got_now replied =
-    subst (λ (items : List Work). Appends got_before got_now (replies desc 1 [] items))
+    subst (λ (items : List Work). Appends got_before got_now (replies desc 1 nothing items))
     (sym (append-nil items)) replied
 
 -- the run of a session whose next step was not read
@@ -143,7 +142,7 @@ IsRun-fault : (desc : DescOf) (base turns taken taken_now : ℕ) (bytes : List �
     (room : Option ℕ) (fault : ScriptFault)
     → step_of desc base taken bytes ≡ step
     → length dues ≡ length items
-    → Appends got_before got_now (replies desc 1 [] items)
+    → Appends got_before got_now (replies desc 1 nothing items)
     → IsStep step taken_now left (Err fault)
     → IsRun (Serving desc (after_items items dues (session_at (session_from desc base turns) step)))
     got_before got_now left room (status_of_fault fault)
@@ -186,10 +185,10 @@ IsRun-unreplied : (desc : DescOf) (more : List Work) (session : Session) (items 
     (work : Work) (got_before got_now got_next left : Option (List ℕ)) (room : Option ℕ)
     (ended : Status)
     → session.items ≡ items ++ work ∷ more
-    → Appends got_before got_now (replies desc 1 [] items)
+    → Appends got_before got_now (replies desc 1 nothing items)
     → IsReplied {T = Unit {0}} got_now got_next
-    (reply desc (1 + length items) (serial desc [] items) work) (Err ended)
-    → (HasRoomFor room (length (replies desc 1 [] session.items)) → ended ≡ status.WriteFault → ⊥)
+    (reply desc (1 + length items) (made_by desc nothing items) work) (Err ended)
+    → (HasRoomFor room (length (replies desc 1 nothing session.items)) → ended ≡ status.WriteFault → ⊥)
     → IsRun (Serving desc session) got_before got_next left room ended
 IsRun-unreplied desc more session items work got_before got_now got_next left room
     status.WriteFault splits replied cut fits = record {
@@ -203,8 +202,8 @@ IsRun-unreplied desc more session items work got_before got_now got_next left ro
     splits replied kept fits = record {
       told = tt;
       gains = GainsFront-served desc session items (work ∷ more) got_before got_next splits
-          (Appends-reply got_before got_now got_next (replies desc 1 [] items) []
-          (replies desc 1 [] items) replied kept (append-nil (replies desc 1 [] items)));
+          (Appends-reply got_before got_now got_next (replies desc 1 nothing items) []
+          (replies desc 1 nothing items) replied kept (append-nil (replies desc 1 nothing items)));
       left = λ whole. cc;
       fits = fits;
     }
@@ -224,14 +223,14 @@ IsRun-unreplied desc more session items work got_before got_now got_next left ro
 -- the next step could not be read
 pub IsRun-stopped : (desc : DescOf) (base : ℕ) (whole : Session)
     (got_before got_now : Option (List ℕ)) (room_before room_now : Option ℕ)
-    (journal : List Entry) (line : ℕ) (refused : Bool)
+    (made : Made) (line : ℕ) (refused : Bool)
     (taken taken_now : ℕ) (left left_now : Option (List ℕ)) (fault : ScriptFault)
-    → HasServed desc base whole got_before got_now room_before room_now journal line refused taken
+    → HasServed desc base whole got_before got_now room_before room_now made line refused taken
     left
     → IfSome left (λ bytes.
     IsStep (step_of desc base taken bytes) taken_now left_now (Err fault))
     → IsRun (Serving desc whole) got_before got_now left_now room_before (status_of_fault fault)
-IsRun-stopped desc base whole got_before got_now room_before room_now journal line refused taken
+IsRun-stopped desc base whole got_before got_now room_before room_now made line refused taken
     taken_now left left_now fault served stepped =
     subst (λ (whole : Session). IsRun (Serving desc whole) got_before got_now left_now room_before
     (status_of_fault fault))
@@ -246,35 +245,35 @@ IsRun-stopped desc base whole got_before got_now room_before room_now journal li
 unfit-reply : (desc : DescOf) (whole : Session) (items more : List Work) (work : Work)
     (room_before room_now : Option ℕ) (ended : Status)
     → whole.items ≡ items ++ work ∷ more
-    → (HasRoomFor room_before (length (replies desc 1 [] whole.items))
-    → room_now ≡ room_after room_before (length (replies desc 1 [] items)))
+    → (HasRoomFor room_before (length (replies desc 1 nothing whole.items))
+    → room_now ≡ room_after room_before (length (replies desc 1 nothing items)))
     → IsReplyRoom {T = Unit {0}} room_now room_now
-    (reply desc (1 + length items) (serial desc [] items) work) (Err ended)
-    → HasRoomFor room_before (length (replies desc 1 [] whole.items))
+    (reply desc (1 + length items) (made_by desc nothing items) work) (Err ended)
+    → HasRoomFor room_before (length (replies desc 1 nothing whole.items))
     → ended ≡ status.WriteFault → ⊥
 unfit-reply desc whole items more work room_before room_now ended splits before unfit fits blamed =
-    let text = reply desc (1 + length items) (serial desc [] items) work in
+    let text = reply desc (1 + length items) (made_by desc nothing items) work in
     let P : Status → Type 0 = λ ended. IsReplyRoom {T = Unit {0}} room_now room_now text (Err
     ended) in
     subst P blamed unfit
-    (HasRoomFor-next room_before room_now (length (replies desc 1 [] items)) (length text)
-    (length (replies desc 1 [] whole.items))
+    (HasRoomFor-next room_before room_now (length (replies desc 1 nothing items)) (length text)
+    (length (replies desc 1 nothing whole.items))
     (length-replies_front desc whole.items items more work splits) before fits)
 
 -- the next item could not be replied to
 pub IsRun-cut : (desc : DescOf) (base : ℕ) (whole : Session)
     (got_before got_now got_next : Option (List ℕ)) (room_before room_now room_next : Option ℕ)
-    (journal : List Entry) (line : ℕ)
+    (made : Made) (line : ℕ)
     (refused : Bool) (taken taken_now : ℕ) (left left_now : Option (List ℕ)) (work : Work)
     (ended : Status)
-    → HasServed desc base whole got_before got_now room_before room_now journal line refused taken
+    → HasServed desc base whole got_before got_now room_before room_now made line refused taken
     left
     → IfSome left (λ bytes.
     IsStep (step_of desc base taken bytes) taken_now left_now (Ok (Some work)))
-    → IsReplied {T = Unit {0}} got_now got_next (reply desc line journal work) (Err ended)
-    → IsReplyRoom {T = Unit {0}} room_now room_next (reply desc line journal work) (Err ended)
+    → IsReplied {T = Unit {0}} got_now got_next (reply desc line made work) (Err ended)
+    → IsReplyRoom {T = Unit {0}} room_now room_next (reply desc line made work) (Err ended)
     → IsRun (Serving desc whole) got_before got_next left_now room_before ended
-IsRun-cut desc base whole got_before got_now got_next room_before room_now room_next journal line
+IsRun-cut desc base whole got_before got_now got_next room_before room_now room_next made line
     refused taken taken_now left left_now work ended served stepped cut unfit =
     let step = IfSome-known left served.rest
     (λ bytes. IsStep (step_of desc base taken bytes) taken_now left_now (Ok (Some work)))
@@ -284,11 +283,11 @@ IsRun-cut desc base whole got_before got_now got_next room_before room_now room_
     let more = (session_from desc base served.turns taken_now step.rest).items in
     let splits : whole.items ≡ served.items ++ work ∷ more =
     sym (ap (λ (session : Session). session.items) goes_on) in
-    let at_item : reply desc line journal work
-    ≡ reply desc (1 + length served.items) (serial desc [] served.items) work =
-    ap (λ (line : ℕ). reply desc line journal work) served.counted
-    ∙ ap (λ (journal : List Entry). reply desc (1 + length served.items) journal work)
-    served.journaled in
+    let at_item : reply desc line made work
+    ≡ reply desc (1 + length served.items) (made_by desc nothing served.items) work =
+    ap (λ (line : ℕ). reply desc line made work) served.counted
+    ∙ ap (λ (made : Made). reply desc (1 + length served.items) made work)
+    served.is_made in
     IsRun-unreplied desc more whole served.items work got_before got_now got_next left_now
     room_before ended splits served.replied
     (subst (λ (text : List ℕ). IsReplied {T = Unit {0}} got_now got_next text (Err ended)) at_item

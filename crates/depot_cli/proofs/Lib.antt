@@ -2,13 +2,14 @@ pub mod AcceptedLemmas
 pub mod CompleteLemmas
 pub mod DueLemmas
 pub mod EndLemmas
+pub mod KnownLemmas
 pub mod LineLemmas
+pub mod MadeLemmas
 pub mod OpeningLemmas
-pub mod PartLemmas
-pub mod PartListLemmas
 pub mod ReplyListLemmas
 pub mod RoomLemmas
 pub mod RunLemmas
-pub mod SessionLemmas
 pub mod SerialLemmas
+pub mod SessionLemmas
+pub mod ShownLemmas
 pub mod StepLemmas

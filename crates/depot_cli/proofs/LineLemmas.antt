@@ -20,7 +20,7 @@ use Rattle.depot_cli.specs.Reading.{NextLine, NoLine, Unreadable, Line, next_lin
 use Rattle.depot_cli.specs.Reading.{Unfinished, Body, next_body, Ends, Ended, Does}
 use Rattle.depot_cli.specs.Reading.{body_due, body_step, line_due, line_step, sized_step, step_of}
 use Rattle.depot_cli.specs.ScriptCalls.{IsBodyUndone, IsLeftOf, IsNextLine}
-use Rattle.run_journal.proofs.KnownLemmas.{IfSome-known}
+use Rattle.depot_cli.proofs.KnownLemmas.{IfSome-known}
 
 -- what there is to be read has a length
 is_empty-false : (bytes : List ℕ) → is_empty bytes ≡ false → 0 < length bytes

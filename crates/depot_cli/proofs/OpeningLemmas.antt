@@ -14,7 +14,7 @@ use Rattle.depot_cli.specs.Reading.{NextLine, NoLine, Unreadable, Line, line_due
 use Rattle.depot_cli.specs.Reading.{Opening, OpeningEnd, Go, Broken, opening, opening_at}
 use Rattle.depot_cli.specs.Reading.{opening_from, after_line}
 use Rattle.depot_cli.specs.ScriptCalls.{IsBeforeGo, IsLeftOf, IsNextLine, IsOpening}
-use Rattle.run_journal.proofs.KnownLemmas.{IfSome-known}
+use Rattle.depot_cli.proofs.KnownLemmas.{IfSome-known}
 use Rattle.depot_cli.proofs.LineLemmas.{IsLeftOf-le, known_line, next_line-shorter}
 
 -- an opening with these lines in front

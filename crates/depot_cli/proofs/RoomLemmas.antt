@@ -1,5 +1,5 @@
 -- The room that a sink tells, as replies are put into it one after the other.
-use Rattle.std.proofs.Common.{◌≡◌, ℕ, ◌+◌, ◌≤◌, List, [], ◌∷◌, ◌++◌, length, ap, sym, ◌∙◌, subst}
+use Rattle.std.proofs.Common.{◌≡◌, ℕ, ◌+◌, ◌≤◌, List, ◌∷◌, ◌++◌, length, ap, sym, ◌∙◌, subst}
 use Rattle.std.proofs.Common.{arith, length-append}
 use Rattle.std.specs.Prelude.{Option, Err}
 use Rattle.desc_types.specs.Descriptions.{DescOf}
@@ -9,7 +9,7 @@ use Rattle.depot_cli.specs.declared.run.status.Status.{Status}
 use Rattle.depot_cli.specs.declared.run.status.Status.TheVariants as status
 use Rattle.depot_cli.specs.declared.script.work.Work.{Work}
 use Rattle.depot_cli.specs.ScriptCalls.{IsReplyRoom}
-use Rattle.depot_cli.specs.SerialJournal.{journal_after, serial}
+use Rattle.depot_cli.specs.SerialJournal.{after, made_by, nothing}
 use Rattle.depot_cli.specs.Replies.{replies, reply}
 use Rattle.depot_cli.proofs.ReplyListLemmas.{replies-append}
 
@@ -37,22 +37,22 @@ room_after-step before now next first second all within is_after takes fits =
 -- the replies to items and the reply to the next one are no longer than the replies to all
 pub length-replies_front : (desc : DescOf) (all items more : List Work) (work : Work)
     → all ≡ items ++ work ∷ more
-    → length (replies desc 1 [] items)
-    + length (reply desc (1 + length items) (serial desc [] items) work)
-    ≤ length (replies desc 1 [] all)
+    → length (replies desc 1 nothing items)
+    + length (reply desc (1 + length items) (made_by desc nothing items) work)
+    ≤ length (replies desc 1 nothing all)
 length-replies_front desc all items more work splits =
-    let front = replies desc 1 [] items in
-    let rest = replies desc (1 + length items) (serial desc [] items) (work ∷ more) in
-    let whole : replies desc 1 [] all ≡ front ++ rest =
-    ap (λ (all : List Work). replies desc 1 [] all) splits
-    ∙ replies-append desc 1 [] items (work ∷ more) in
+    let front = replies desc 1 nothing items in
+    let rest = replies desc (1 + length items) (made_by desc nothing items) (work ∷ more) in
+    let whole : replies desc 1 nothing all ≡ front ++ rest =
+    ap (λ (all : List Work). replies desc 1 nothing all) splits
+    ∙ replies-append desc 1 nothing items (work ∷ more) in
     omega (
       arith,
       ap length whole,
       length-append front rest,
-      length-append (reply desc (1 + length items) (serial desc [] items) work)
+      length-append (reply desc (1 + length items) (made_by desc nothing items) work)
           (replies desc (1 + length items + 1)
-          (journal_after desc (serial desc [] items) work) more),
+          (after desc (made_by desc nothing items) work) more),
     )
 
 -- what a failed reply says of the room does not look at the room after it

@@ -15,7 +15,7 @@ use Rattle.depot_cli.specs.Reading.{OpeningEnd, Go, Broken, Script, Unopened, Mi
 use Rattle.depot_cli.specs.Reading.{opening, reading, script_at, script_after, session}
 use Rattle.depot_cli.specs.ScriptCalls.{IsBeforeGo, IsLeftOf, IsOpening, status_of_fault}
 use Rattle.depot_cli.specs.Runs.{GainsFrontOf, GainsTakenOf, IsRun}
-use Rattle.run_journal.proofs.KnownLemmas.{IfSome-each}
+use Rattle.depot_cli.proofs.KnownLemmas.{IfSome-each}
 use Rattle.depot_cli.proofs.EndLemmas.{GainsFront-start, GainsTaken-start}
 
 -- the script after the lines of a description

@@ -20,7 +20,7 @@ use Rattle.depot_cli.specs.Reading.{next_body, Step, Ends, Does, Stopped, body_d
 use Rattle.depot_cli.specs.Reading.{body_step, line_due, line_step, sized_step, step_of}
 use Rattle.depot_cli.specs.ScriptCalls.{IsBodyUndone, IsLeftOf, IsNextBody, IsNextLine}
 use Rattle.depot_cli.specs.ScriptCalls.{IsStep, IsUndone}
-use Rattle.run_journal.proofs.KnownLemmas.{IfSome-known}
+use Rattle.depot_cli.proofs.KnownLemmas.{IfSome-known}
 use Rattle.depot_cli.proofs.LineLemmas.{IsLeftOf-le, known_line, step_of-leaves}
 
 -- a step is not done where so much is left at least as is due of it

@@ -1,6 +1,5 @@
 -- What an item of a script asks for, by its line and its body.
 use Rattle.std.specs.Prelude.{ℕ, List, Option, Some, None, Bool, true, false, Result, Ok, Err}
-use Rattle.std.specs.Prelude.{codes, if◌then◌else◌}
 use Rattle.depot_script.specs.declared.fault.CommandFault.{CommandFault}
 use Rattle.depot_script.specs.CommandValues.{CommandOf, Nothing, Deliver, Drain, Query, Marks, Aside}
 use Rattle.depot_script.specs.CommandValues.{Reclaim, End}
@@ -16,17 +15,6 @@ use Rattle.depot_cli.specs.declared.script.work.Refusal.{Refusal}
 use Rattle.depot_cli.specs.declared.script.work.Refusal.TheVariants as refusal
 use Rattle.depot_cli.specs.declared.script.work.Work.{Work}
 use Rattle.depot_cli.specs.declared.script.work.Work.TheVariants as work
-
--- whether a command is of a form that is not built yet: it asks to forget
-abbrev pub is_later : CommandOf → Bool
-is_later Nothing = false
-is_later (Deliver feed number closes size) = false
-is_later Drain = false
-is_later (Query items) = false
-is_later (Marks items) = false
-is_later (Aside feed) = false
-is_later Reclaim = true
-is_later End = false
 
 -- whether a line ends the session
 abbrev pub is_end : Result CommandOf CommandFault → Bool
@@ -52,26 +40,22 @@ asked desc Drain body = work.Drain
 asked desc (Query items) body = asking (work.Query items) (request_fault desc items)
 asked desc (Marks items) body = asking (work.Marks items) (request_fault desc items)
 asked desc (Aside feed) body = work.Aside feed
-asked desc Reclaim body = work.Refused refusal.Later
+asked desc Reclaim body = work.Reclaim
 asked desc End body = work.Nothing
 
--- what a line asks for, with the body after it: its faults go first, then forms that are not built
--- yet, then the body and the request
+-- what a line asks for, with the body after it: its faults go first, then the body and the request
 abbrev pub work_of : DescOf → Result CommandOf CommandFault → (body : List ℕ) → Work
 work_of desc (Err fault) body = work.Refused (refusal.Line fault)
-work_of desc (Ok command) body =
-    if is_later command then work.Refused refusal.Later else asked desc command body
+work_of desc (Ok command) body = asked desc command body
 
 -- the word that names the cause of a refusal
 abbrev pub refusal_text : Refusal → List ℕ
 refusal_text (refusal.Line fault) = fault_text fault
-refusal_text refusal.Later = codes "later"
 refusal_text (refusal.Record bad) = cause_text bad.cause
 refusal_text (refusal.Request fault) = request.fault_text fault
 
 -- the record of the body that it speaks of, if it speaks of one
 abbrev pub refusal_record : Refusal → Option ℕ
 refusal_record (refusal.Line fault) = None
-refusal_record refusal.Later = None
 refusal_record (refusal.Record bad) = Some bad.number
 refusal_record (refusal.Request fault) = None

@@ -15,7 +15,7 @@ use Rattle.depot_cli.specs.Reading.{Script, Unopened, Misdescribed, Serving, Ses
 use Rattle.depot_cli.specs.Reading.{Ended, Stopped}
 use Rattle.desc_types.specs.Descriptions.{DescOf}
 use Rattle.depot_cli.specs.ScriptCalls.{IsLeftOf}
-use Rattle.depot_cli.specs.SerialJournal.{serial}
+use Rattle.depot_cli.specs.SerialJournal.{made_by, nothing}
 use Rattle.depot_cli.specs.Replies.{replies, has_refused}
 
 -- the words of the command line are the one command that there is
@@ -78,7 +78,7 @@ is_read status.Memory = false
 abbrev pub replies_of : Script → List ℕ
 replies_of (Unopened _ _ _) = []
 replies_of (Misdescribed _ _) = []
-replies_of (Serving desc session) = replies desc 1 [] session.items
+replies_of (Serving desc session) = replies desc 1 nothing session.items
 
 -- what the end of a session leaves of its input
 abbrev pub left_after : SessionEnd → List ℕ
@@ -95,11 +95,11 @@ left_of (Serving desc session) = left_after session.end
 -- the reply to the item of a session with this number, from 0; and nothing if there is none
 abbrev pub reply_at : DescOf → Session → (number : ℕ) → List ℕ
 reply_at desc session number = replies desc (1 + number)
-    (serial desc [] (take number session.items)) (take 1 (drop number session.items))
+    (made_by desc nothing (take number session.items)) (take 1 (drop number session.items))
 
 -- the replies to so many items of a session
 abbrev pub first_replies : DescOf → Session → (many : ℕ) → List ℕ
-first_replies desc session many = replies desc 1 [] (take many session.items)
+first_replies desc session many = replies desc 1 nothing (take many session.items)
 
 -- the sink has gained the whole replies to the first so many items, and a front of the next one's
 pub record GainsFront (desc : DescOf) (session : Session) (got_before got_now : Option (List ℕ))

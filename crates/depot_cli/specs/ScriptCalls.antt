@@ -16,8 +16,9 @@ use Rattle.depot_script.specs.declared.fault.CommandFault.{CommandFault}
 use Rattle.depot_script.specs.CommandValues.{CommandOf}
 use Rattle.depot_script.specs.CommandValues as command
 use Rattle.desc_types.specs.Descriptions.{DescOf}
-use Rattle.depot_cli.specs.SerialJournal.{journal_after}
-use Rattle.run_journal.specs.KeptJournals.{DrainsSome, JournalOf, TellsAsBefore}
+use Rattle.depot_cli.specs.SerialJournal.{after, made_of}
+use Rattle.run_journal.specs.KeptJournals.{DrainsSome, JournalOf, TellsAsBefore, entries_of}
+use Rattle.view_meaning.specs.Journal.{FitsDelivery}
 use Rattle.table_desc.specs.Drafts.{DraftOf, drafted}
 use Rattle.depot_cli.specs.Reading.{NextLine, NoLine, Unreadable, Line, NextBody, Unfinished, Body}
 use Rattle.depot_cli.specs.Reading.{Opening, OpeningEnd, Go, Broken, Step, Ends, Does, Ended}
@@ -126,15 +127,17 @@ abbrev pub FitsLine : DescOf → Result CommandOf CommandFault → Type 0
 FitsLine desc (Ok read) = FitsCommand desc read
 FitsLine desc (Err fault) = ⊤
 
--- the feed that is spoken of is one of the description, and no test speaks against a request
+-- a delivery fits the description, the feed that is spoken of is one of it, and no test speaks
+-- against a request
 abbrev pub IsAnswerable : DescOf → Work → Type 0
 IsAnswerable desc work.Nothing = ⊤
 IsAnswerable desc (work.Refused _) = ⊤
-IsAnswerable desc (work.Load delivery) = delivery.feed < length desc.feeds
+IsAnswerable desc (work.Load delivery) = FitsDelivery desc delivery
 IsAnswerable desc work.Drain = ⊤
 IsAnswerable desc (work.Query items) = request_fault desc items ≡ None
 IsAnswerable desc (work.Marks items) = request_fault desc items ≡ None
 IsAnswerable desc (work.Aside feed) = feed < length desc.feeds
+IsAnswerable desc work.Reclaim = ⊤
 
 -- the status of a script that was not read on
 abbrev pub status_of_fault : ScriptFault → Status
@@ -183,16 +186,17 @@ abbrev pub IsOpened : Opening → (left : Option (List ℕ))
 IsOpened opening left (Ok (draft, taken)) = IsOpening opening taken left (Ok draft)
 IsOpened opening left (Err fault) = IsOpening opening 0 left (Err fault)
 
--- what a command for which there was no memory left of the journal: a delivery may have taken room
--- in it, a drain may have made some of its installs, and each other one changed nothing
+-- what a command for which there was no memory left of the journal: a drain may have made some of
+-- its installs, `reclaim` may have dropped versions, and after each other one the journal tells what
+-- it told before
 abbrev pub IsCutShort : DescOf → (before now : JournalOf) → Work → Type 0
-IsCutShort desc before now (work.Load _) = TellsAsBefore desc before now
-IsCutShort desc before now work.Drain = DrainsSome desc before.entries now.entries
-IsCutShort desc before now _ = now ≡ before
+IsCutShort desc before now work.Drain = DrainsSome desc (entries_of before) (entries_of now)
+IsCutShort desc before now work.Reclaim = entries_of now ≡ entries_of before
+IsCutShort desc before now _ = TellsAsBefore before now
 
 -- what an item that was not replied to left of the journal: it was done, if the sink failed
 abbrev pub IsItemCut : DescOf → (before now : JournalOf) → Work → Status → Type 0
 IsItemCut desc before now work status.WriteFault =
-    now.entries ≡ journal_after desc before.entries work
+    made_of now ≡ after desc (made_of before) work
 IsItemCut desc before now work status.Memory = IsCutShort desc before now work
 IsItemCut desc before now work _ = ⊥

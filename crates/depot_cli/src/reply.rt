@@ -1,110 +1,92 @@
 //! What is done for each item of a script, and what is written in reply.
 
-mod parts;
+mod loading;
+mod reading;
 
-ghost use Rattle.std.specs.Prelude.{◌≡◌, ◌<◌, length, IfOk, OnErr, OnOk};
+ghost use Rattle.std.specs.Prelude.{◌≡◌, ◌-◌, length, IfOk, OnErr, OnOk};
 ghost use Rattle.view_meaning.specs.Drains.{drained};
+ghost use Rattle.run_journal.specs.KeptJournals.{DrainsSome, IsKept, entries_of, reclaimed_of};
+ghost use Rattle.machine_meaning.specs.VersionCounts.{versions_replaced};
+ghost use Rattle.depot_script.specs.Texts.{drained_text, reclaimed_text, refused_text};
 ghost use Rattle.depot_cli.specs.declared.script.work.Work.TheVariants as work;
-ghost use Rattle.depot_cli.specs.ScriptCalls.{IsAnswerable, IsCutShort};
-ghost use Rattle.run_journal.specs.KeptJournals.{DrainsSome, IsKept, TellsAsBefore};
-ghost use Rattle.depot_cli.specs.SerialJournal.{journal_after};
-ghost use Rattle.depot_script.specs.Texts.{drained_text, refused_text};
 ghost use Rattle.depot_cli.specs.Items.{refusal_record, refusal_text};
-ghost use Rattle.depot_cli.specs.Replies.{load_reply, reply};
+ghost use Rattle.depot_cli.specs.Replies.{reply};
+ghost use Rattle.depot_cli.specs.ScriptCalls.{IsAnswerable, IsCutShort};
+ghost use Rattle.depot_cli.specs.SerialJournal.{after, made_of};
 
-use crate::reply::parts::{marks_reply, query_reply};
+use crate::reply::loading::load;
+use crate::reply::reading::{marks_reply, query_reply};
 use crate::script::work::{Refusal, Work};
 use depot_cell::Memory;
-use depot_script::{asides_text, drained_text, feed_name, loaded_text, refused_text, repeat_text};
-use desc_types::{AcceptedDesc, Delivery};
-use raw_load::LoadFault;
+use depot_script::{asides_text, drained_text, reclaimed_text, refused_text};
 use run_journal::{Journal, drain};
 use std::alloc::Global;
-use view_meaning::Loaded;
 
 /// Does what an item asks for, and makes the text of the reply. `line` is the item's line, from 1.
-/// Without memory a drain may have made some of its installs, and otherwise the journal tells what
-/// it told before.
+/// Without memory a drain may have made some of its installs and a reclaim may have dropped
+/// versions, and otherwise the journal tells what it told before.
 pub fn answer(
     alloc: Global,
-    served: &AcceptedDesc,
     line: u64,
     journal: &mut Journal,
     work: Work,
 ) -> Result<Vec<u8>, Memory>
-    requires kept { IsKept served.now.desc journal.old }
-    requires in_range { IsAnswerable served.now.desc work }
+    requires kept { IsKept journal.old.core.desc journal.old }
+    requires in_range { IsAnswerable journal.old.core.desc work }
     ensures exact { IfOk result (λ text.
-        text.items ≡ reply served.now.desc line journal.old.entries work) }
+        text.items ≡ reply journal.old.core.desc line (made_of journal.old) work) }
     ensures ok { OnOk result
-        (journal.new.entries ≡ journal_after served.now.desc journal.old.entries work) }
-    ensures kept { OnOk result (IsKept served.now.desc journal.new) }
-    ensures err { OnErr result
-        (IsCutShort served.now.desc journal.old journal.new work) }
+        (made_of journal.new ≡ after journal.old.core.desc (made_of journal.old) work) }
+    ensures kept { OnOk result (IsKept journal.old.core.desc journal.new) }
+    ensures err { OnErr result (IsCutShort journal.old.core.desc journal.old journal.new work) }
 {
     match work {
         Work::Nothing => Ok(Vec::new(alloc)),
         Work::Refused(refusal) => refusal_reply(alloc, line, refusal),
-        Work::Load(delivery) => load(alloc, served, journal, delivery),
-        Work::Drain => drain_text(alloc, served, journal),
-        Work::Query(request) => query_reply(alloc, served, journal, &request.items),
-        Work::Marks(request) => marks_reply(alloc, served, journal, &request.items),
-        Work::Aside(feed) => asides_text(alloc, served, feed, journal.len(), journal.aside(feed)),
+        Work::Load(delivery) => load(alloc, journal, delivery),
+        Work::Drain => drain_reply(alloc, journal),
+        Work::Query(request) => query_reply(alloc, journal, &request),
+        Work::Marks(request) => marks_reply(alloc, journal, &request),
+        Work::Aside(feed) => asides_text(
+            alloc,
+            journal.served(),
+            feed,
+            journal.len(),
+            journal.aside(feed),
+        ),
+        Work::Reclaim => reclaim_reply(alloc, journal),
     }
-}
-
-/// Loads a delivery, unless its number was accepted before. It is loaded only after its text is
-/// made: without memory the journal tells what it told before.
-fn load(
-    alloc: Global,
-    served: &AcceptedDesc,
-    journal: &mut Journal,
-    delivery: Delivery,
-) -> Result<Vec<u8>, Memory>
-    requires kept { IsKept served.now.desc journal.old }
-    requires of_feed { delivery.feed < length served.now.desc.feeds }
-    ensures exact { IfOk result (λ text.
-        text.items ≡ load_reply served.now.desc journal.old.entries delivery) }
-    ensures ok { OnOk result (journal.new.entries
-        ≡ journal_after served.now.desc journal.old.entries (work.Load delivery)) }
-    ensures kept { OnOk result (IsKept served.now.desc journal.new) }
-    ensures err { OnErr result (TellsAsBefore served.now.desc journal.old journal.new) }
-{
-    let feed = feed_name(served, delivery.feed);
-    let number = delivery.number;
-    let ready = match journal.ready_load(served, delivery) {
-        Ok(ready) => ready,
-        Err(LoadFault::Repeat { .. }) => return repeat_text(alloc, feed, number),
-        Err(LoadFault::Memory) => return Err(Memory),
-    };
-    let counts = ready.counts();
-    let loaded = Loaded {
-        entry: journal.len() + 1,
-        kept: counts.kept,
-        aside: counts.aside,
-    };
-    let text = loaded_text(alloc, feed, number, &loaded)?;
-    journal.step_load(ready);
-    Ok(text)
 }
 
 /// Computes all that is not settled, and tells the place. Without memory the first of the installs
 /// may be made.
-fn drain_text(
-    alloc: Global,
-    served: &AcceptedDesc,
-    journal: &mut Journal,
-) -> Result<Vec<u8>, Memory>
-    requires kept { IsKept served.now.desc journal.old }
-    ensures exact { IfOk result (λ text.
-        text.items ≡ drained_text (length (drained served.now.desc journal.old.entries))) }
-    ensures ok { OnOk result (journal.new.entries ≡ drained served.now.desc journal.old.entries) }
-    ensures kept { OnOk result (IsKept served.now.desc journal.new) }
+fn drain_reply(alloc: Global, journal: &mut Journal) -> Result<Vec<u8>, Memory>
+    requires kept { IsKept journal.old.core.desc journal.old }
+    ensures exact { IfOk result (λ text. text.items
+        ≡ drained_text (length (drained journal.old.core.desc (entries_of journal.old)))) }
+    ensures ok { OnOk result (made_of journal.new
+        ≡ after journal.old.core.desc (made_of journal.old) work.Drain) }
+    ensures kept { OnOk result (IsKept journal.old.core.desc journal.new) }
     ensures err { OnErr result
-        (DrainsSome served.now.desc journal.old.entries journal.new.entries) }
+        (DrainsSome journal.old.core.desc (entries_of journal.old) (entries_of journal.new)) }
 {
-    drain(alloc, served, journal)?;
+    drain(alloc, journal)?;
     drained_text(alloc, journal.len())
+}
+
+/// Drops the versions that nothing needs any more, and tells how many. Without memory they are
+/// dropped all the same.
+fn reclaim_reply(alloc: Global, journal: &mut Journal) -> Result<Vec<u8>, Memory>
+    requires kept { IsKept journal.old.core.desc journal.old }
+    ensures exact { IfOk result (λ text. text.items ≡ reclaimed_text
+        (versions_replaced (entries_of journal.old) - reclaimed_of journal.old)
+        (length (entries_of journal.old))) }
+    ensures made { made_of journal.new
+        ≡ after journal.old.core.desc (made_of journal.old) work.Reclaim }
+    ensures kept { IsKept journal.old.core.desc journal.new }
+{
+    let dropped = journal.reclaim();
+    reclaimed_text(alloc, dropped, journal.len())
 }
 
 /// Tells that an item was refused, and why.
@@ -114,7 +96,6 @@ fn refusal_reply(alloc: Global, line: u64, refusal: Refusal) -> Result<Vec<u8>, 
 {
     match refusal {
         Refusal::Line(fault) => refused_text(alloc, line, None, fault.text()),
-        Refusal::Later => refused_text(alloc, line, None, "later"),
         Refusal::Record(bad) => {
             refused_text(alloc, line, Some(u64::from(bad.number)), bad.cause.text())
         }

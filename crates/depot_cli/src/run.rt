@@ -73,7 +73,7 @@ fn trial<S: Source, O: Sink>(alloc: Global, source: &mut S, sink: &mut O) -> Sta
         Err(fault) => return status_of(fault),
     };
     match draft.into_read() {
-        Ok(served) => serve_source(alloc, &served, base, source, sink),
+        Ok(served) => serve_source(alloc, served, base, source, sink),
         Err(bad) => Status::BadDescription {
             line: bad.line,
             cause: bad.cause,
@@ -109,14 +109,14 @@ fn open<S: Source>(alloc: Global, source: &mut S) -> Result<(Draft, u64), Script
 /// Serves the session lines that a source has left. `base` is the place at which they begin.
 fn serve_source<S: Source, O: Sink>(
     alloc: Global,
-    served: &AcceptedDesc,
+    served: AcceptedDesc,
     base: u64,
     source: &mut S,
     sink: &mut O,
 ) -> Status
     requires in_input { base ≤ LIMIT }
     ensures run { IfSome (S.bytes_left source.old) (λ input.
-        IsRun (Serving served.now.desc (session served.now.desc base input)) (O.bytes_got sink.old)
+        IsRun (Serving served.desc (session served.desc base input)) (O.bytes_got sink.old)
         (O.bytes_got sink.new) (S.bytes_left source.new) (O.room sink.old) result) }
     ensures causes { HasRunCauses (S.faults source.old) (S.faults source.new)
         (O.faults sink.old) (O.faults sink.new) result }

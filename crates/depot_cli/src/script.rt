@@ -13,7 +13,7 @@ ghost use Rattle.depot_script.specs.Values.{command_value, read_value};
 ghost use Rattle.query_pin.specs.Requests.{request_fault};
 ghost use Rattle.feed_csv.specs.Bodies.{delivery_of};
 ghost use Rattle.depot_cli.specs.declared.script.work.Work.TheVariants as work;
-ghost use Rattle.depot_cli.specs.Items.{asked, asking, is_end, is_later, loading, work_of};
+ghost use Rattle.depot_cli.specs.Items.{asked, asking, is_end, loading, work_of};
 ghost use Rattle.depot_cli.specs.Reading.{line_due, next_line, next_body};
 ghost use Rattle.depot_cli.specs.Reading.{step_of, opening};
 ghost use Rattle.depot_cli.specs.Runs.{EndsSession};
@@ -149,13 +149,7 @@ fn work_of(
     ensures in_range { IfOk result (IsAnswerable served.now.desc) }
 {
     match command {
-        Ok(command) => {
-            if is_later(&command) {
-                Ok(Work::Refused(Refusal::Later))
-            } else {
-                asked(alloc, served, command, body)
-            }
-        }
+        Ok(command) => asked(alloc, served, command, body),
         Err(fault) => Ok(Work::Refused(Refusal::Line(fault))),
     }
 }
@@ -172,14 +166,7 @@ fn is_end(command: &Result<Command, CommandFault>) -> bool
     }
 }
 
-/// Whether a command is of a form that is not built yet.
-fn is_later(command: &Command) -> bool
-    ensures exact { result ≡ is_later (command_value command.now) }
-{
-    matches!(command, Command::Reclaim)
-}
-
-/// What a command asks for that is built, with the body after its line.
+/// What a command asks for, with the body after its line.
 fn asked(
     alloc: Global,
     served: &AcceptedDesc,
@@ -204,7 +191,7 @@ fn asked(
         Command::Query(request) => Ok(asking(served, request)),
         Command::Marks(request) => Ok(asking_marks(served, request)),
         Command::Aside { feed } => Ok(Work::Aside(feed)),
-        Command::Reclaim => Ok(Work::Refused(Refusal::Later)),
+        Command::Reclaim => Ok(Work::Reclaim),
     }
 }
 

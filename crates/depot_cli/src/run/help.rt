@@ -21,7 +21,7 @@ Commands:
            what they bring in memory, and reply on standard output
 
 Session lines: deliver F NUMBER CLOSES BYTES, drain, query T FROM TO [LEVEL],
-marks T FROM TO, aside F, end.
+marks T FROM TO, aside F, reclaim, end.
 docs/FORMATS.md tells the description, the session lines and the replies,
 docs/RULES.md the rules behind them; examples/ has a script to begin with.
 

@@ -2,8 +2,14 @@
 //! nothing, so that it is proved, and can be cited.
 
 ghost use Rattle.depot_cli.specs.Acceptance.{HasAcceptedReadings};
-ghost use Rattle.depot_cli.specs.SerialJournal.{HasLegalSerial};
+ghost use Rattle.depot_cli.specs.SerialJournal.{HasLegalSerial, HasSerialJournals};
 ghost use Rattle.depot_cli.specs.Runs.{HasCompleteRuns};
+
+/// A law: what `reclaim` drops does not change the journal. So the laws of `serial` speak of each
+/// run.
+pub fn journals_are_serial()
+    ensures law { HasSerialJournals }
+{}
 
 /// A law: the journal that the items of a script make is legal.
 pub fn serial_is_legal()

@@ -10,8 +10,6 @@ use query_pin::{Request, RequestFault};
 pub enum Refusal {
     /// The line has this fault.
     Line(CommandFault),
-    /// The line is of a form that is not built yet.
-    Later,
     /// This record of the body is no row.
     Record(BadRecord),
     /// What is asked for has this fault.
@@ -35,4 +33,6 @@ pub enum Work {
     Marks(Request),
     /// To tell the rows of a feed that were set aside.
     Aside(u16),
+    /// To drop the versions that nothing needs any more.
+    Reclaim,
 }

@@ -74,7 +74,7 @@ raw s feed g width 1 time at cols at:int\n\
 view v width 10 filter r 0 0 where at >= 0 keep k\ngo\n";
 
 /// First lines of a session, with their bodies, and why they are refused.
-static REFUSED: [(&[u8], &str); 23] = [
+static REFUSED: [(&[u8], &str); 22] = [
     // what the line says
     (b"Drain\n", "bad_word"),
     (b"query r 0 10 open\n", "bad_word"),
@@ -84,8 +84,6 @@ static REFUSED: [(&[u8], &str); 23] = [
     (b"deliver f 4294967296 0 6\nr,1,a\n", "bad_number"),
     (b"deliver h 0 0 6\nr,1,a\n", "no_feed"),
     (b"query r 0 10 ; t 0 10\n", "no_table"),
-    // what is not built yet
-    (b"reclaim\n", "later"),
     // a record of the body
     (b"deliver f 0 0 12\nr,1,a\nv,1,a\n", "record 2 no_table"),
     (b"deliver f 0 0 4\ns,1\n", "record 1 no_table"),

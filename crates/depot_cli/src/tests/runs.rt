@@ -3,7 +3,7 @@
 ghost use Rattle.std.specs.Prelude.{None};
 
 use super::{NONE, TRIAL, expect_end, expect_run, run_words};
-use crate::run::laws::{runs_are_complete, serial_is_legal};
+use crate::run::laws::{journals_are_serial, runs_are_complete, serial_is_legal};
 use crate::run::status::{InputEnd, Status};
 use depot_io::{Failed, NeverSource, Sink, Source};
 use desc_causes::DescCause;
@@ -72,7 +72,7 @@ deliver f 0 0 5\nr,3,\ndeliver f 0 0 0\nreclaim\ndrain\n\
 query r 0 10\nquery v 0 10\nmarks r 0 10\naside f\n\nend\nx";
 
 const REPLIES: &[u8] =
-    b"loaded f 0 entry 1 kept 1 aside 0\nrepeat f 0\nrefused 3 later\ndrained at 2\n\
+    b"loaded f 0 entry 1 kept 1 aside 0\nrepeat f 0\nreclaimed 0 at 1\ndrained at 2\n\
 answer at 2 parts 1\npart r 0 version 1 upto 2 mark open rows 1\n3,\n\
 answer at 2 parts 1\npart v 0 version 1 upto 1 mark open rows 1\n\"\"\n\
 marks at 2 parts 1\npart r 0 mark open\nasides f at 2 rows 0\n";
@@ -83,7 +83,8 @@ const NEXT: u64 = 209;
 /// With memory each kind of line is served, and nothing is taken after `end`.
 #[test]
 fn ample_memory_is_enough(rt: HostRuntime) -> Result<(), Fail> {
-    expect_run(rt.alloc(), TRIAL, SCRIPT, NEXT, Status::Refused, REPLIES)?;
+    expect_run(rt.alloc(), TRIAL, SCRIPT, NEXT, Status::Done, REPLIES)?;
+    journals_are_serial();
     serial_is_legal();
     runs_are_complete();
     Ok(())

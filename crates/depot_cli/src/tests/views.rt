@@ -1,7 +1,8 @@
-//! Tests of views: a drain, and what is shown of groups and joins after it.
+//! Tests of views: a drain, what is shown of groups and joins after it, and a reclaim.
 
 use super::{NONE, TRIAL, expect_run};
 use crate::run::status::Status;
+use std::alloc::Global;
 use std::test::Fail;
 
 /// A sum that is more than an int holds.
@@ -35,4 +36,60 @@ part j 0 version 1 upto 1 mark open rows 6\n\
 #[test]
 fn joined_rows_stand_in_left_order_then_in_right_order(rt: HostRuntime) -> Result<(), Fail> {
     expect_run(rt.alloc(), TRIAL, PAIRS, NONE, Status::Done, JOINED)
+}
+
+/// A view, and a view over that one. Each delivery but the last changes partition 0 of both.
+const OVENS: &[u8] = b"feed plant\n\
+raw ovens feed plant width 10 time at cols at:int oven:text degrees:int\n\
+view hot width 20 filter ovens 0 0 where degrees >= 200 keep at oven degrees\n\
+view alarm width 20 filter hot 0 0 where degrees >= 220 keep at oven\ngo\n";
+
+/// Sessions in which versions are dropped, and the replies.
+static RECLAIMS: [(&[u8], &[u8]); 3] = [
+    // Nothing is dropped that is the latest version, also if that is stale.
+    (
+        b"reclaim\ndeliver plant 1 0 29\novens,3,a,180\novens,14,a,210\nreclaim\ndrain\nreclaim\n\
+deliver plant 2 0 14\novens,5,b,230\nreclaim\nquery hot 0 20\n",
+        b"reclaimed 0 at 0\nloaded plant 1 entry 1 kept 2 aside 0\nreclaimed 0 at 1\n\
+drained at 3\nreclaimed 0 at 3\nloaded plant 2 entry 4 kept 1 aside 0\nreclaimed 0 at 4\n\
+answer at 4 parts 1\npart hot 0 version 1 upto 1 mark open rows 1\n14,a,210\n",
+    ),
+    // What was replaced is dropped once, and the answers stay.
+    (
+        b"deliver plant 1 0 29\novens,3,a,180\novens,14,a,210\ndrain\n\
+deliver plant 2 0 14\novens,5,b,230\ndrain\nreclaim\nreclaim\nquery hot 0 20 ; alarm 0 20\n\
+deliver plant 3 0 15\novens,16,b,250\ndrain\nreclaim\nquery hot 0 20 ; alarm 0 20\n",
+        b"loaded plant 1 entry 1 kept 2 aside 0\ndrained at 3\n\
+loaded plant 2 entry 4 kept 1 aside 0\ndrained at 6\nreclaimed 2 at 6\nreclaimed 0 at 6\n\
+answer at 6 parts 2\npart hot 0 version 2 upto 4 mark open rows 2\n5,b,230\n14,a,210\n\
+part alarm 0 version 2 upto 5 mark open rows 1\n5,b\n\
+loaded plant 3 entry 7 kept 1 aside 0\ndrained at 9\nreclaimed 2 at 9\n\
+answer at 9 parts 2\npart hot 0 version 3 upto 7 mark open rows 3\n5,b,230\n14,a,210\n16,b,250\n\
+part alarm 0 version 3 upto 8 mark open rows 2\n5,b\n16,b\n",
+    ),
+    // All that was ever replaced goes at once.
+    (
+        b"deliver plant 1 0 29\novens,3,a,180\novens,14,a,210\ndrain\n\
+deliver plant 2 0 14\novens,5,b,230\ndrain\ndeliver plant 3 0 15\novens,16,b,150\ndrain\n\
+deliver plant 4 0 15\novens,25,b,200\ndrain\nreclaim\n",
+        b"loaded plant 1 entry 1 kept 2 aside 0\ndrained at 3\n\
+loaded plant 2 entry 4 kept 1 aside 0\ndrained at 6\n\
+loaded plant 3 entry 7 kept 1 aside 0\ndrained at 9\n\
+loaded plant 4 entry 10 kept 1 aside 0\ndrained at 12\nreclaimed 4 at 12\n",
+    ),
+];
+
+/// Expects that a session over the ovens is replied to so.
+fn expect_ovens(alloc: Global, session: &[u8], output: &[u8]) -> Result<(), Fail> {
+    let mut script = OVENS.to_vec(alloc)?;
+    script.extend_from_slice(session)?;
+    expect_run(alloc, TRIAL, &script, NONE, Status::Done, output)
+}
+
+#[test]
+fn what_was_replaced_is_dropped_once(rt: HostRuntime) -> Result<(), Fail> {
+    for &(session, output) in &RECLAIMS {
+        expect_ovens(rt.alloc(), session, output)?;
+    }
+    Ok(())
 }

@@ -11,7 +11,7 @@ use Rattle.desc_types.specs.Descriptions.{DescOf}
 use Rattle.depot_io.proofs.ReadingLemmas.{ReadsOn-step}
 use Rattle.depot_cli.specs.declared.run.status.InputEnd.TheVariants as why
 use Rattle.depot_cli.specs.declared.script.ScriptFault.TheVariants.{Input}
-use Rattle.run_journal.proofs.KnownLemmas.{Err-passed}
+use Rattle.table_desc.proofs.TextLemmas.{Err-passed}
 use Rattle.depot_cli.proofs.StepLemmas.{IsRead, IsStep-after, IsStep-big, IsStep-body_fault}
 use Rattle.depot_cli.proofs.StepLemmas.{IsStep-line_fault}
 use Rattle.depot_cli.proofs.script.next_work.Goals as goal

@@ -5,7 +5,7 @@ use Rattle.desc_lines.specs.Words.{is_go, words}
 use Rattle.table_desc.specs.Drafts.{DraftOf, with_more}
 use Rattle.depot_cli.specs.Reading.{opening}
 use Rattle.depot_io.proofs.ReadingLemmas.{ReadsOn-same, ReadsOn-step}
-use Rattle.run_journal.proofs.KnownLemmas.{Err-passed}
+use Rattle.table_desc.proofs.TextLemmas.{Err-passed}
 use Rattle.depot_cli.proofs.OpeningLemmas.{HasOpened-fault, HasOpened-go, HasOpened-start}
 use Rattle.depot_cli.proofs.OpeningLemmas.{HasOpened-line}
 use Rattle.depot_cli.proofs.script.read_opening.Goals as goal
