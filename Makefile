@@ -29,12 +29,12 @@ program: needs-rt
 ci: needs-rt
 	.ci/run
 
-# What loading, views, marks and the book of stale partitions cost, against the bars of
-# docs/PERFORMANCE.md. It wants Python 3 and valgrind, and the proved programs. Each script runs even
-# if one before it misses a bar.
+# What loading, views, marks, the book of stale partitions and the whole machine cost, against the
+# bars of docs/PERFORMANCE.md. It wants Python 3 and valgrind, and the proved programs. Each script
+# runs even if one before it misses a bar.
 bench: needs-rt
 	@missed=0; \
-	for script in loading views marks stale; do \
+	for script in loading views marks stale machine; do \
 	    echo "bench/$$script.py"; \
 	    python3 bench/$$script.py || missed=1; \
 	done; \

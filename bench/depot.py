@@ -3,6 +3,7 @@
 A run that goes wrong gives no figure: it raises `Unmeasured`, with the reason.
 """
 
+import argparse
 import os
 import re
 import resource
@@ -17,6 +18,10 @@ WORDS = [".", "trial"]
 
 # A run that takes longer than this is stopped. The longest ones take some ten seconds.
 MOST_SECONDS = 600
+
+# The C library clears a large piece with one instruction that repeats, and callgrind counts each
+# repeat. With this setting it clears with ordinary stores, which are counted one by one.
+PLAIN_STORES = "glibc.cpu.x86_rep_stosb_threshold=1000000000"
 
 # Exit statuses of the scripts.
 MET = 0
@@ -70,6 +75,11 @@ class Session:
         self.length += installs
         self.lines.append("drain\n")
         self.replies.append("drained at %d\n" % self.length)
+
+    def reclaim(self, dropped):
+        """Drops the versions that were replaced, of which there are so many."""
+        self.lines.append("reclaim\n")
+        self.replies.append("reclaimed %d at %d\n" % (dropped, self.length))
 
     def marks(self, table, start, end, parts):
         """Asks for the marks of the partitions between two ticks: number and mark of each."""
@@ -210,3 +220,30 @@ class Figures:
             self.line(name, "none", "", "FAIL")
             print("not measured, %s: %s" % (name, why), file=sys.stderr, flush=True)
             self.status = NOT_MEASURED
+
+
+def measure_parts(about, parts, with_bars):
+    """The main of a script with parts: each has a measuring and the session that `--print` writes.
+
+    Those named on the command line are measured, and else all that have bars.
+    """
+    parser = argparse.ArgumentParser(description=about.split("\n")[0])
+    parser.add_argument("parts", nargs="*", metavar="PART",
+                        help="of %s; else all that have bars" % ", ".join(parts))
+    parser.add_argument("--print", metavar="PART", choices=parts,
+                        help="write a session of this part and run nothing")
+    options = parser.parse_args()
+    unknown = [part for part in options.parts if part not in parts]
+    if unknown:
+        parser.error("no such part: %s" % ", ".join(unknown))
+    if options.print:
+        _, session = parts[options.print]
+        sys.stdout.buffer.write(session().script())
+        return MET
+    require_program()
+    print("figures are instructions, start-up taken off, unless they say otherwise")
+    figures = Figures()
+    for part in options.parts or with_bars:
+        measuring, _ = parts[part]
+        figures.measure(part, measuring)
+    return figures.status

@@ -23,11 +23,6 @@ sys.dont_write_bytecode = True
 
 import depot
 
-# The C library clears a large piece with one instruction that repeats, and callgrind counts each
-# repeat. With this setting it clears with ordinary stores, which are counted one by one. The bar
-# is for the run without it; the other figure only tells how much of the first is such counting.
-PLAIN_STORES = "glibc.cpu.x86_rep_stosb_threshold=1000000000"
-
 MOST_INSTRUCTIONS_A_ROW = 2_000
 MOST_RESIDENT_A_BODY_BYTE = 6
 
@@ -89,7 +84,7 @@ def measure_instructions(figures, session, rows):
     figures.tell("instructions for start-up", start_up)
     figures.tell("instructions for loading", loading)
     figures.hold("instructions a row", loading / rows, MOST_INSTRUCTIONS_A_ROW)
-    stores = depot.instructions_after_start(session, PLAIN_STORES)
+    stores = depot.instructions_after_start(session, depot.PLAIN_STORES)
     figures.tell("the same, with memory cleared by ordinary stores", stores / rows)
 
 

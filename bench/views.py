@@ -16,7 +16,6 @@ Exit status: 0 if all bars are met, 1 if one is not, 2 if something was not meas
 docs/PERFORMANCE.md.
 """
 
-import argparse
 import sys
 
 sys.dont_write_bytecode = True
@@ -302,28 +301,5 @@ PARTS = {
 WITH_BARS = [part for part in PARTS if part != "times"]
 
 
-def main():
-    parser = argparse.ArgumentParser(description=__doc__.split("\n")[0])
-    parser.add_argument("parts", nargs="*", metavar="PART",
-                        help="of %s; else all that have bars" % ", ".join(PARTS))
-    parser.add_argument("--print", metavar="PART", choices=PARTS,
-                        help="write a session of this part and run nothing")
-    options = parser.parse_args()
-    unknown = [part for part in options.parts if part not in PARTS]
-    if unknown:
-        parser.error("no such part: %s" % ", ".join(unknown))
-    if options.print:
-        _, session = PARTS[options.print]
-        sys.stdout.buffer.write(session().script())
-        return depot.MET
-    depot.require_program()
-    print("figures are instructions, start-up taken off, unless they say otherwise")
-    figures = depot.Figures()
-    for part in options.parts or WITH_BARS:
-        measuring, _ = PARTS[part]
-        figures.measure(part, measuring)
-    return figures.status
-
-
 if __name__ == "__main__":
-    sys.exit(main())
+    sys.exit(depot.measure_parts(__doc__, PARTS, WITH_BARS))
