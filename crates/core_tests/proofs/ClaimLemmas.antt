@@ -1,13 +1,11 @@
 -- What the pin of a claim keeps: what its ticket tells.
 use Rattle.std.proofs.Common.{◌≡◌, ◌∙◌, ℕ, ap, arith, sym, take_all}
-use Rattle.std.specs.Prelude.{List, Option, length, take, ◌==◌}
+use Rattle.std.specs.Prelude.{length, ◌==◌}
 use Rattle.desc_types.specs.declared.table.Key.{Key}
-use Rattle.desc_types.specs.Descriptions.{DescOf}
-use Rattle.view_meaning.specs.declared.journal.Entry.{Entry}
-use Rattle.query_pin.specs.Pins.{PinOf, versions_at, versions_of}
+use Rattle.query_pin.specs.Pins.{versions_at, versions_of}
 use Rattle.machine_meaning.specs.declared.claim.Claim.{Claim}
 use Rattle.machine_meaning.specs.Events.{Claims, IsClaimOf, claim_of}
-use Rattle.machine_meaning.specs.States.{IsGoodClaim, State, inputs}
+use Rattle.machine_meaning.specs.States.{IsGoodClaim, State}
 use Rattle.machine_meaning.proofs.ClaimLemmas.{All-find}
 use Rattle.claim_core.specs.Cores.{CoreOf, IsTicketOf, Steps, TicketOf}
 

@@ -9,7 +9,7 @@ use depot_cell::Memory;
 use desc_types::Key;
 use query_pin::{Dead, Input};
 use std::alloc::Global;
-use view_meaning::{Mark, MarkItem, PinItem};
+use view_meaning::{Mark, PinItem};
 
 pub const R0: Key = Key { table: 0, part: 0 };
 
@@ -340,7 +340,7 @@ impl Plain {
     }
 
     /// The first ready partition.
-    fn next_ready(&self) -> Option<Key> {
+    pub fn next_ready(&self) -> Option<Key> {
         for &(view, _) in &VIEWS {
             if self.is_ready(view) {
                 return Some(view);
@@ -357,7 +357,7 @@ impl Plain {
             .count() as u64
     }
 
-    /// What the lists tell.
+    /// What the lists tell. Marks and rows that were set aside are not asked for.
     pub fn told(&self, ask: Ask) -> Told {
         match ask {
             Ask::Len => Told::Count(self.len()),
@@ -369,18 +369,8 @@ impl Plain {
             Ask::Settled(key) => {
                 Told::Settled(is_settled(&self.entries, key), all_settled(&self.entries))
             }
-            Ask::Mark(_) => Told::Mark(Mark::Open),
-            Ask::Marks => Told::Marks(Some(open(TOT0)), Some(open(TOT1))),
-            Ask::Aside => Told::Aside(0, None),
+            Ask::Mark(_) | Ask::Marks | Ask::Aside => Told::Done,
         }
-    }
-}
-
-/// A partition that is open.
-fn open(key: Key) -> MarkItem {
-    MarkItem {
-        key,
-        mark: Mark::Open,
     }
 }
 

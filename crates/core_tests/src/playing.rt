@@ -4,7 +4,7 @@ ghost use Rattle.std.specs.Prelude.{◌≡◌};
 ghost use Rattle.query_pin.specs.Pins.{versions_at};
 
 use crate::asking::{FIRST, asked, told};
-use crate::served::{LINES, delivered, served};
+use crate::served::{LINES, copied, delivered, served};
 use crate::step::{Ask, Step, Told, expect_told};
 use claim_core::{ClaimFault, Core, Ticket};
 use desc_types::Key;
@@ -121,7 +121,7 @@ impl Played {
         body: &[u8],
     ) -> Result<(Played, Told), Fail> {
         let delivery = delivered(alloc, self.core.served(), number, closes, body)?;
-        let same = delivered(alloc, self.core.served(), number, closes, body)?;
+        let same = copied(alloc, &delivery)?;
         match self.core.ready_load(delivery) {
             Ok(prepared) => {
                 let loaded = self.core.step_load(prepared);

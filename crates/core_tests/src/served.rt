@@ -7,11 +7,11 @@ ghost use Rattle.std.specs.Prelude.{◌≡◌, IfOk, Ok, true};
 ghost use Rattle.partition_map.specs.Partitions.{is_met};
 ghost use Rattle.partition_map.specs.Time.{END as the_end};
 ghost use Rattle.table_desc.specs.Described.{described};
-ghost use Rattle.feed_csv.specs.Bodies.{delivery_of};
 ghost use Rattle.view_meaning.specs.Journal.{FitsDelivery};
 ghost use Rattle.view_meaning.specs.Partitions.{is_part};
 
-use desc_types::{AcceptedDesc, Delivery, Desc, END, Key, Width};
+use depot_cell::{Memory, copy_row};
+use desc_types::{AcceptedDesc, DRow, Delivery, Desc, END, Key, Width};
 use feed_csv::{DeliveryFault, read_delivery};
 use std::alloc::Global;
 use std::test::Fail;
@@ -43,8 +43,6 @@ pub fn delivered(
     body: &[u8],
 ) -> Result<Delivery, Fail>
     ensures fits { IfOk result (FitsDelivery served.now.desc) }
-    ensures exact { IfOk result (λ delivery.
-        delivery_of served.now.desc 0 number closes body.now ≡ Ok delivery) }
 {
     if body.len() > 16_777_216 || served.desc.feeds.is_empty() || closes > END {
         return Err(Fail::new("no delivery"));
@@ -54,6 +52,26 @@ pub fn delivered(
         Err(DeliveryFault::At(bad)) => Err(Fail::new(bad.cause.text())),
         Err(DeliveryFault::Memory) => Err(Fail::new("no memory")),
     }
+}
+
+/// A copy of a delivery.
+pub fn copied(alloc: Global, delivery: &Delivery) -> Result<Delivery, Memory>
+    ensures exact { IfOk result (λ copy. copy ≡ delivery.now) }
+{
+    let mut rows = Vec::new(alloc);
+    for row in &delivery.rows {
+        rows.push(DRow {
+            number: row.number,
+            table: row.table,
+            cells: copy_row(alloc, &row.cells)?,
+        })?;
+    }
+    Ok(Delivery {
+        feed: delivery.feed,
+        number: delivery.number,
+        closes: delivery.closes,
+        rows,
+    })
 }
 
 /// Whether a key is a partition of a table.

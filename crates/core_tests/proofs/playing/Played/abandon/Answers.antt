@@ -1,5 +1,5 @@
 -- What a claim that is given up leaves.
-use Rattle.std.proofs.Common.{◌≡◌, None, Some, sym}
+use Rattle.std.proofs.Common.{sym}
 use Rattle.core_tests.proofs.PlayedLemmas.{IsPlayed-abandon}
 use Rattle.core_tests.proofs.playing.Played.abandon.Goals as goal
 

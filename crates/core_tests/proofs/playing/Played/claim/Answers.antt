@@ -1,5 +1,4 @@
 -- A claim leaves the entries and the last pin, and its pin keeps what its ticket tells.
-use Rattle.std.proofs.Common.{◌≡◌}
 use Rattle.core_tests.proofs.ClaimLemmas.{versions_at-claimed}
 use Rattle.core_tests.proofs.PlayedLemmas.{IsPlayed-claim}
 use Rattle.core_tests.proofs.playing.Played.claim.Goals as goal

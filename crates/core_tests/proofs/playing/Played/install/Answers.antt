@@ -1,5 +1,5 @@
 -- What an install leaves, and the entry that it adds.
-use Rattle.std.proofs.Common.{◌≡◌, ◌∙◌, ap, sym}
+use Rattle.std.proofs.Common.{◌∙◌, ap, sym}
 use Rattle.machine_meaning.specs.Events.{claim_at}
 use Rattle.core_tests.proofs.PlayedLemmas.{IsPlayed-install, IsPlayed-same}
 use Rattle.core_tests.proofs.playing.Played.install.Goals as goal

@@ -1,5 +1,4 @@
 -- What a pin that ends leaves.
-use Rattle.std.proofs.Common.{◌≡◌, sym}
 use Rattle.core_tests.proofs.PlayedLemmas.{IsPlayed-unpin}
 use Rattle.core_tests.proofs.playing.Played.unpin.Goals as goal
 
