@@ -1,0 +1,11 @@
+pub mod TornLemmas
+pub mod RecordLemmas
+pub mod CountingLemmas
+pub mod DoesLemmas
+pub mod StepLemmas
+pub mod PickLemmas
+pub mod AfterLemmas
+pub mod StateLemmas
+pub mod RunLemmas
+pub mod ThroughLemmas
+pub mod FrontLemmas

@@ -1,0 +1,11 @@
+pub mod Image
+pub mod Torn
+pub mod State
+pub mod Life
+pub mod Picks
+pub mod Record
+pub mod MemDisk
+pub mod Listed
+pub mod Laws
+pub mod After
+pub mod Front
