@@ -1,0 +1,9 @@
+pub mod SpellLemmas
+pub mod ReadLemmas
+pub mod GateLemmas
+pub mod LawLemmas
+pub mod CatalogLemmas
+pub mod AppendLemmas
+pub mod AddLemmas
+pub mod FreshLemmas
+pub mod OpenLemmas
