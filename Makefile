@@ -13,10 +13,11 @@ needs-rt:
 demo: needs-rt
 	@examples/demo.sh
 
-# Proves the program, keeps it, and lets it print its version. Before it that of the bench.
+# Proves the program, keeps it, and lets it print its version. Before it those of the bench.
 program: needs-rt
 	@echo "Proving takes 5 to 15 minutes the first time, and a few seconds if nothing has changed."
 	cd crates/stale_bench && rt run -- 3
+	cd crates/file_bench && rt run -- rows 3
 	cd crates/depot_cli && rt run -- --version
 	@echo
 	@echo "The program: $(PROGRAM)"
@@ -29,12 +30,12 @@ program: needs-rt
 ci: needs-rt
 	.ci/run
 
-# What loading, views, marks, the book of stale partitions and the whole machine cost, against the
-# bars of docs/PERFORMANCE.md. It wants Python 3 and valgrind, and the proved programs. Each script
+# What loading, views, marks, the book of stale partitions, the whole machine and the bytes of files
+# cost, against the bars of docs/PERFORMANCE.md. It wants Python 3 and valgrind, and the proved programs. Each script
 # runs even if one before it misses a bar.
 bench: needs-rt
 	@missed=0; \
-	for script in loading views marks stale machine; do \
+	for script in loading views marks stale machine files; do \
 	    echo "bench/$$script.py"; \
 	    python3 bench/$$script.py || missed=1; \
 	done; \

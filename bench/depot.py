@@ -14,6 +14,7 @@ import tempfile
 TOP = os.path.dirname(os.path.dirname(os.path.abspath(__file__)))
 PROGRAM = os.path.join(TOP, "crates", "depot_cli", "out", "depot_cli")
 STALE_BENCH = os.path.join(TOP, "crates", "stale_bench", "out", "stale_bench")
+FILE_BENCH = os.path.join(TOP, "crates", "file_bench", "out", "file_bench")
 WORDS = [".", "trial"]
 
 # A run that takes longer than this is stopped. The longest ones take some ten seconds.
