@@ -39,6 +39,12 @@ pub(crate) fn make_four<D: Disk>(alloc: Global, disk: &mut D) -> Result<(), LogF
     add(alloc, &mut log, disk, b"yz")
 }
 
+/// Makes a catalogue of an empty body and that of a load.
+pub(crate) fn make_load<D: Disk>(alloc: Global, disk: &mut D) -> Result<(), LogFault> {
+    let mut log = Log::fresh(alloc, disk, b"")?;
+    add(alloc, &mut log, disk, b"\x01\0\0\0\0\0\0\0\x42")
+}
+
 /// How many bodies a catalogue has, if they are the first ones of the four.
 pub(crate) fn count_in(alloc: Global, disk: &mut MemDisk) -> Result<Option<usize>, LogFault> {
     let (_, bodies) = Log::open(alloc, disk)?;

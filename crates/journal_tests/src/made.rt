@@ -1,6 +1,6 @@
 //! What a catalogue is on the disk.
 
-use crate::logs::{count_in, make_two};
+use crate::logs::{count_in, make_load, make_two};
 use catalog_journal::{Log, LogFault};
 use depot_disk::{Disk, DiskFailed, MemDisk};
 use std::test::Fail;
@@ -20,6 +20,15 @@ fn two_records_are_fifteen_bytes(rt: HostRuntime) -> Result<(), Fail> {
     assert!(rt; has(&mut disk, b"\x01\0\0\0\x03abc\x01\0\0\0\x01x\0") == Ok(true));
     assert!(rt; disk.size(4_294_967_296) == Ok(Some(1)));
     assert!(rt; count_in(alloc, &mut disk) == Ok(Some(2)));
+    Ok(())
+}
+
+#[test]
+fn a_load_is_a_record_of_fourteen_bytes(rt: HostRuntime) -> Result<(), Fail> {
+    let mut disk = MemDisk::new(rt.alloc());
+    assert!(rt; make_load(rt.alloc(), &mut disk) == Ok(()));
+    let want = b"\x01\0\0\0\0\x01\0\0\0\x09\x01\0\0\0\0\0\0\0\x42\0";
+    assert!(rt; has(&mut disk, want) == Ok(true));
     Ok(())
 }
 
