@@ -1,0 +1,9 @@
+pub mod ListLemmas
+pub mod GrowthLemmas
+pub mod TellsLemmas
+pub mod SeatLemmas
+pub mod SplitLemmas
+pub mod JoinLemmas
+pub mod ViewLemmas
+pub mod TurnSteps
+pub mod PassSteps

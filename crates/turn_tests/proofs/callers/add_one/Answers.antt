@@ -1,0 +1,14 @@
+use Rattle.std.proofs.Common.{ℕ, ◌∙◌, ap, sym}
+use Rattle.turn_lock.specs.declared.known.Known.{Known}
+use Rattle.turn_tests.proofs.PassLemmas.{MayLeave-adds, TakesTurns-left}
+use Rattle.turn_tests.proofs.callers.add_one.Goals as goal
+
+pub leave-requires-clause-may : goal.leave-requires-clause-may
+leave-requires-clause-may g c = MayLeave-adds _ 0 _ _ _ _ c.enter-held.ensures.found
+    (c.number-by.ensures.exact
+    ∙ sym (ap (λ (known : Known ℕ ℕ ℕ). known.number) c.enter-held.ensures.told))
+    c.add-added.ensures.adds
+
+pub returns-clause-told : goal.returns-clause-told
+returns-clause-told g c = TakesTurns-left _ 0 _ _ _ _ _ _ c.number-by.ensures.exact
+    c.enter-held.ensures.told c.enter-held.ensures.tells c.add-added.ensures.adds c.leave.ensures.told
