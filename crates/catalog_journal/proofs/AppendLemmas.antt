@@ -1,45 +1,23 @@
 -- The images of an append: first the record is written after the closed gate, and then that gate is
 -- opened.
 use Rattle.std.proofs.Common.{◌≡◌, ℕ, ◌+◌, ◌<◌, ◌≤◌, All, List, [], ◌∷◌, ◌++◌}
-use Rattle.std.proofs.Common.{length, drop, refl, sym, ◌∙◌, ap, subst, arith}
-use Rattle.std.specs.Prelude.{None, Some, IfSome, IsSome, unwrap_or}
+use Rattle.std.proofs.Common.{length, drop, sym, ◌∙◌, ap, subst, arith}
+use Rattle.std.specs.Prelude.{None, Some, unwrap_or}
 use Rattle.std.specs.declared.option.Option.{Option}
-use Rattle.std.proofs.lemmas.Bool.{false≢true}
 use Rattle.std.proofs.lemmas.List.{length-append}
 use mathlib.Core.Logic.{inl, inr}
 use Rattle.depot_disk.specs.Image.{Image, SameElsewhere, bytes_in, overwritten}
 use Rattle.depot_disk.specs.Torn.{Torn, TornFile}
-use Rattle.depot_disk.specs.State.{DiskState, IsDiskState, LeavesOnly, Stepped, Within}
+use Rattle.depot_disk.specs.State.{Stepped, Within}
 use Rattle.catalog_journal.specs.declared.log.Log.{Log}
 use Rattle.catalog_journal.specs.Catalog.{IsBody, IsCatalog, MOST_RECORDS, framed, open_records}
 use Rattle.catalog_journal.specs.Logs.{IsFramed, IsLogOf, framed_body}
 use Rattle.catalog_journal.specs.Moments.{HasBeforeOrAfter, HasBodies, HasNow}
 use Rattle.catalog_journal.proofs.SpellLemmas.{length-framed, length-open_records-push}
+use Rattle.catalog_journal.proofs.ThroughLemmas.{IsOver, SameElsewhere-both}
 use Rattle.catalog_journal.proofs.CatalogLemmas.{IsCatalog-after, IsCatalog-any_gate}
 use Rattle.catalog_journal.proofs.CatalogLemmas.{IsCatalog-opened, overwritten-after}
 use Rattle.catalog_journal.proofs.CatalogLemmas.{overwritten-gate, torn-gate}
-
--- of a disk that tells what it holds
-pub held_image : (held : Option Image) → IsSome held → (image : Image) × (held ≡ Some image)
-held_image (Some image) is = (image, refl)
-held_image None is = absurd (false≢true is)
-
--- what is said of what it holds is said of that image
-pub IfSome-at : (P : Image → Type 0) (held : Option Image) (image : Image) → held ≡ Some image
-    → IfSome held P → P image
-IfSome-at P held image is told = subst (λ (o : Option Image). IfSome o P) is told
-
--- what a stop leaves after a run is of its kind
-pub LeavesOnly-now : (old new : DiskState) (Kind : Image → Type 0) → IsDiskState new
-    → LeavesOnly old new Kind → Within new.may_leave Kind
-LeavesOnly-now old new Kind told run = λ image left.
-    run.each image (told.counts_now old.moment image run.later left)
-
--- two steps that leave every other file
-pub SameElsewhere-both : (file : ℕ) (old mid new : Image)
-    → SameElsewhere file old mid → SameElsewhere file mid new → SameElsewhere file old new
-SameElsewhere-both file old mid new first second = λ other apart.
-    second other apart ∙ first other apart
 
 -- a file that is absent is no catalogue
 absent-no_catalog : (bodies : List (List ℕ)) → IsCatalog [] bodies → ⊥
@@ -117,20 +95,20 @@ IsStaged-opening before mid bodies body place at staged = λ image stepped.
     ]
 
 -- once the gate is open, the catalogue has the record
-pub IsStaged-opened : (before mid : Image → Type 0) (bodies : List (List ℕ)) (body : List ℕ)
-    (place : ℕ) (held image : Image) → place ≡ length (open_records bodies)
-    → IsStaged before bodies body mid → mid held → Stepped (Torn 0 place 1) mid image
-    → image 0 ≡ Some (overwritten (bytes_in held 0) place (1 ∷ []))
-    → HasNow before (bodies ++ body ∷ []) image
-IsStaged-opened before mid bodies body place held image at staged has stepped opened =
+pub IsStaged-opened : (before mid now : Image → Type 0) (bodies : List (List ℕ)) (body : List ℕ)
+    (place : ℕ) → place ≡ length (open_records bodies) → IsStaged before bodies body mid
+    → Within now (Stepped (Torn 0 place 1) mid) → IsOver mid now 0 place (1 ∷ [])
+    → Within now (HasNow before (bodies ++ body ∷ []))
+IsStaged-opened before mid now bodies body place at staged torn over image left =
+    let stepped : Stepped (Torn 0 place 1) mid image = torn image left in
     let from : Image = stepped.0 in
     let was : HasNow before bodies from = staged.now from stepped.1 in
     let front : List ℕ = open_records bodies in
     let after : List ℕ = framed body ++ staged.rest in
     let bytes : bytes_in image 0 ≡ front ++ 1 ∷ after =
-    ap (λ (content : Option (List ℕ)). unwrap_or content []) opened
+    ap (λ (content : Option (List ℕ)). unwrap_or content []) (over.here image left)
     ∙ ap (λ (content : Option (List ℕ)). overwritten (unwrap_or content []) place (1 ∷ []))
-    (staged.bytes held has)
+    (staged.bytes over.held over.was)
     ∙ ap (λ (n : ℕ). overwritten (front ++ staged.gate ∷ after) n (1 ∷ [])) at
     ∙ overwritten-gate front after staged.gate 1 in
     record {
@@ -206,13 +184,11 @@ IsCatalog-appended log bodies body bytes old next catalog =
 
 -- once the record is on the disk, it stands after the gate in each image
 pub IsStaged-written : (before mid : Image → Type 0) (log : Log) (bodies : List (List ℕ))
-    (body bytes : List ℕ) (held : Image) → IsNext log bodies body bytes
-    → Within before (HasBodies bodies) → before held
+    (body bytes : List ℕ) → IsNext log bodies body bytes → Within before (HasBodies bodies)
     → Within mid (Stepped (Torn 0 (log.end + 1) (length bytes)) before)
-    → ((left : Image) → mid left → left 0 ≡ Some (overwritten (bytes_in held 0) (log.end + 1) bytes))
-    → IsStaged before bodies body mid
-IsStaged-written before mid log bodies body bytes held next each has torn durable =
-    let catalog : IsCatalog (bytes_in held 0) bodies = each held has in
+    → IsOver before mid 0 (log.end + 1) bytes → IsStaged before bodies body mid
+IsStaged-written before mid log bodies body bytes next each torn over =
+    let catalog : IsCatalog (bytes_in over.held 0) bodies = each over.held over.was in
     record {
       gate = catalog.gate;
       rest = drop (length bytes) catalog.rest;
@@ -222,6 +198,6 @@ IsStaged-written before mid log bodies body bytes held next each has torn durabl
       short = next.short;
       now = λ image left. HasNow-staging before bodies (log.end + 1) (length bytes)
           (omega (arith, next.of.end)) each image (torn image left);
-      bytes = λ image left. durable image left ∙ ap (λ (l : List ℕ). Some l)
-          (overwritten-framed log bodies body bytes (bytes_in held 0) next catalog);
+      bytes = λ image left. over.here image left ∙ ap (λ (l : List ℕ). Some l)
+          (overwritten-framed log bodies body bytes (bytes_in over.held 0) next catalog);
     }

@@ -16,8 +16,8 @@ use Rattle.catalog_journal.specs.Logs.{IsLogOf}
 use Rattle.catalog_journal.specs.Moments.{HasBodies, HoldsLog, IsMade, IsUnmadeOrMade, IsUnmarked, SameOthers}
 use Rattle.catalog_journal.proofs.SpellLemmas.{length-framed, length-spelled}
 use Rattle.catalog_journal.proofs.CatalogLemmas.{IsCatalog-opened}
-use Rattle.catalog_journal.proofs.AddLemmas.{bytes_in-written}
-use Rattle.catalog_journal.proofs.AppendLemmas.{IfSome-at, LeavesOnly-now, held_image}
+use Rattle.catalog_journal.proofs.ThroughLemmas.{IsOver, IsOver-through, IsThrough, IsThrough-torn}
+use Rattle.catalog_journal.proofs.ThroughLemmas.{bytes_in-written}
 
 -- every file beside the two is as in one of these images
 abbrev pub HasOthers : (Image → Type 0) → Image → Type 0
@@ -55,20 +55,20 @@ module _ (before : Image → Type 0) (body : List ℕ) where
   }
 
   -- after that
-  pub IsBegun-written : (mid : Image → Type 0) (bytes old : List ℕ) (count : ℕ) → IsBody body
-      → bytes ≡ 1 ∷ framed body → Within mid (Stepped (Torn 0 0 count) before)
-      → ((left : Image) → mid left → left 0 ≡ Some (overwritten old 0 bytes))
+  pub IsBegun-written : (asked mid : Image → Type 0) (bytes : List ℕ) → Within asked before
+      → IsBody body → bytes ≡ 1 ∷ framed body
+      → Within mid (Stepped (Torn 0 0 (length bytes)) asked) → IsOver asked mid 0 0 bytes
       → Within mid (IsBegun before body)
-  IsBegun-written mid bytes old count short whole torn durable image left =
-      let from : Stepped (Torn 0 0 count) before image = torn image left in
-      let rest : List ℕ = drop (0 + length bytes) old in
+  IsBegun-written asked mid bytes same short whole torn over image left =
+      let from : Stepped (Torn 0 0 (length bytes)) asked image = torn image left in
+      let rest : List ℕ = drop (0 + length bytes) (bytes_in over.held 0) in
       let stands : bytes_in image 0 ≡ 1 ∷ (framed body ++ rest) =
-      ap (λ (content : Option (List ℕ)). unwrap_or content []) (durable image left)
+      ap (λ (content : Option (List ℕ)). unwrap_or content []) (over.here image left)
       ∙ ap (λ (l : List ℕ). l ++ rest) whole in
       record {
         catalog = subst (λ (l : List ℕ). IsCatalog l (body ∷ [])) (sym stands)
             (IsCatalog-opened [] body rest (All-nil IsBody) short (omega arith));
-        others = (from.0, from.1, SameOthers-catalog from.0 image from.2.elsewhere);
+        others = (from.0, same from.0 from.1, SameOthers-catalog from.0 image from.2.elsewhere);
       }
 
   -- while the mark file is written, and ever after
@@ -92,79 +92,60 @@ module _ (before : Image → Type 0) (body : List ℕ) where
 
 -- the same of a disk: its size is asked for, and then the two files are written and synced
 module _ (old asked : DiskState) (body bytes : List ℕ) (unmarked : Within old.may_leave IsUnmarked)
-    (told_old : IsDiskState old) (same : Unchanged old asked) (time : Elapses old asked) where
+    (told : IsDiskState old) (same : Unchanged old asked) (time : Elapses old asked) where
   -- no write yet
-  pub LeavesOnly-asking : LeavesOnly old asked (IsUnmadeOrMade old.may_leave body)
+  LeavesOnly-asking : LeavesOnly old asked (IsUnmadeOrMade old.may_leave body)
   LeavesOnly-asking =
       let kind : Image → Type 0 = IsUnmadeOrMade old.may_leave body in
       let start : Within old.may_leave kind = IsUnmadeOrMade-start old.may_leave body unmarked in
-      LeavesOnly-call old asked kind told_old time start
+      LeavesOnly-call old asked kind told time start
       (λ image left. start image (same.no_more image left))
 
-  -- images from before are those of the start
-  Stepped-asked : (step : Image → Image → Type 0)
-      → Within (Stepped step asked.may_leave) (Stepped step old.may_leave)
-  Stepped-asked step image stepped = (stepped.0, same.no_more stepped.0 stepped.1, stepped.2)
+  -- while the catalogue's file is written
+  pub LeavesOnly-beginning : (mid : DiskState)
+      → LeavesOnly asked mid (Stepped (Torn 0 0 (length bytes)) asked.may_leave)
+      → LeavesOnly old mid (IsUnmadeOrMade old.may_leave body)
+  LeavesOnly-beginning mid run =
+      let kind : Image → Type 0 = IsUnmadeOrMade old.may_leave body in
+      LeavesOnly-both old asked mid kind LeavesOnly-asking
+      (LeavesOnly-wider asked mid (Stepped (Torn 0 0 (length bytes)) asked.may_leave) kind
+      (λ image stepped. IsUnmadeOrMade-writing old.may_leave body 0 (length bytes) unmarked image
+      (stepped.0, same.no_more stepped.0 stepped.1, stepped.2))
+      run)
 
-  module _ (mid : DiskState) (run : LeavesOnly asked mid (Stepped (Torn 0 0 (length bytes)) asked.may_leave)) where
-    -- while the catalogue's file is written
-    pub LeavesOnly-beginning : LeavesOnly old mid (IsUnmadeOrMade old.may_leave body)
-    LeavesOnly-beginning =
-        let step : Image → Image → Type 0 = Torn 0 0 (length bytes) in
+  module _ (mid : DiskState) (first : IsThrough asked mid 0 0 bytes) (shown : IsSome asked.holds)
+      (short : IsBody body) (whole : bytes ≡ 1 ∷ framed body) where
+    -- after that
+    begun : Within mid.may_leave (IsBegun old.may_leave body)
+    begun = IsBegun-written old.may_leave body asked.may_leave mid.may_leave bytes same.no_more short
+        whole (IsThrough-torn asked mid 0 0 bytes first) (IsOver-through asked mid 0 0 bytes first shown)
+
+    -- while the mark file is written
+    pub LeavesOnly-marking : (new : DiskState)
+        → LeavesOnly mid new (Stepped (Torn MARK_FILE 0 1) mid.may_leave)
+        → LeavesOnly old new (IsUnmadeOrMade old.may_leave body)
+    LeavesOnly-marking new run =
         let kind : Image → Type 0 = IsUnmadeOrMade old.may_leave body in
-        LeavesOnly-both old asked mid kind LeavesOnly-asking
-        (LeavesOnly-wider asked mid (Stepped step asked.may_leave) kind
-        (λ image stepped. IsUnmadeOrMade-writing old.may_leave body 0 (length bytes) unmarked image
-        (Stepped-asked step image stepped))
+        LeavesOnly-both old mid new kind (LeavesOnly-beginning mid first.run)
+        (LeavesOnly-wider mid new (Stepped (Torn MARK_FILE 0 1) mid.may_leave) kind
+        (λ image stepped. IsBegun-made old.may_leave body image
+        (IsBegun-marking old.may_leave body mid.may_leave 0 1 begun image stepped))
         run)
 
     -- after that
-    pub IsBegun-through : IsBody body → bytes ≡ 1 ∷ framed body → IsDiskState mid → IsSome asked.holds
-        → IfSome asked.holds (λ image. (left : Image) → mid.may_leave left
-        → left 0 ≡ Some (overwritten (bytes_in image 0) 0 bytes))
-        → Within mid.may_leave (IsBegun old.may_leave body)
-    IsBegun-through short whole told_mid shown durable =
-        let step : Image → Image → Type 0 = Torn 0 0 (length bytes) in
-        let held : (image : Image) × (asked.holds ≡ Some image) = held_image asked.holds shown in
-        IsBegun-written old.may_leave body mid.may_leave bytes (bytes_in held.0 0) (length bytes) short
-        whole
-        (λ image left. Stepped-asked step image
-        (LeavesOnly-now asked mid (Stepped step asked.may_leave) told_mid run image left))
-        (IfSome-at (λ image. (left : Image) → mid.may_leave left
-        → left 0 ≡ Some (overwritten (bytes_in image 0) 0 bytes))
-        asked.holds held.0 held.1 durable)
-
-    module _ (new : DiskState) (begun : Within mid.may_leave (IsBegun old.may_leave body))
-        (last : LeavesOnly mid new (Stepped (Torn MARK_FILE 0 1) mid.may_leave)) where
-      -- while the mark file is written
-      pub LeavesOnly-marking : LeavesOnly old new (IsUnmadeOrMade old.may_leave body)
-      LeavesOnly-marking =
-          let kind : Image → Type 0 = IsUnmadeOrMade old.may_leave body in
-          LeavesOnly-both old mid new kind LeavesOnly-beginning
-          (LeavesOnly-wider mid new (Stepped (Torn MARK_FILE 0 1) mid.may_leave) kind
-          (λ image stepped. IsBegun-made old.may_leave body image
-          (IsBegun-marking old.may_leave body mid.may_leave 0 1 begun image stepped))
-          last)
-
-      -- after that
-      pub IsMade-through : IsDiskState new → IsSome mid.holds
-          → IfSome mid.holds (λ image. (left : Image) → new.may_leave left
-          → left MARK_FILE ≡ Some (overwritten (bytes_in image MARK_FILE) 0 (1 ∷ [])))
-          → Within new.may_leave (IsMade old.may_leave body)
-      IsMade-through told_new shown durable image left =
-          let held : (now : Image) × (mid.holds ≡ Some now) = held_image mid.holds shown in
-          let here : image MARK_FILE ≡ Some (overwritten (bytes_in held.0 MARK_FILE) 0 (1 ∷ [])) =
-          IfSome-at (λ now. (left : Image) → new.may_leave left
-          → left MARK_FILE ≡ Some (overwritten (bytes_in now MARK_FILE) 0 (1 ∷ [])))
-          mid.holds held.0 held.1 durable image left in
-          let is : IsBegun old.may_leave body image =
-          IsBegun-marking old.may_leave body mid.may_leave 0 1 begun image
-          (LeavesOnly-now mid new (Stepped (Torn MARK_FILE 0 1) mid.may_leave) told_new last image left) in
-          record {
-            mark = subst (λ (content : Option (List ℕ)). IsSome content) (sym here) refl;
-            catalog = is.catalog;
-            others = is.others;
-          }
+    pub IsMade-through : (new : DiskState) → IsThrough mid new MARK_FILE 0 (1 ∷ []) → IsSome mid.holds
+        → Within new.may_leave (IsMade old.may_leave body)
+    IsMade-through new second shown_mid image left =
+        let over : IsOver mid.may_leave new.may_leave MARK_FILE 0 (1 ∷ []) =
+        IsOver-through mid new MARK_FILE 0 (1 ∷ []) second shown_mid in
+        let is : IsBegun old.may_leave body image =
+        IsBegun-marking old.may_leave body mid.may_leave 0 1 begun image
+        (IsThrough-torn mid new MARK_FILE 0 (1 ∷ []) second image left) in
+        record {
+          mark = subst (λ (content : Option (List ℕ)). IsSome content) (sym (over.here image left)) refl;
+          catalog = is.catalog;
+          others = is.others;
+        }
 
 -- a log of one record
 pub IsLogOf-first : (body bytes : List ℕ) (len : ℕ) → bytes ≡ 1 ∷ framed body → len ≡ length bytes

@@ -3,6 +3,7 @@ pub mod ReadLemmas
 pub mod GateLemmas
 pub mod LawLemmas
 pub mod CatalogLemmas
+pub mod ThroughLemmas
 pub mod AppendLemmas
 pub mod AddLemmas
 pub mod FreshLemmas
