@@ -19,6 +19,7 @@ mod open;
 
 pub use bodies::Bodies;
 pub use fault::LogFault;
+pub use files::{CATALOG_FILE, MARK_FILE};
 pub use framed::Framed;
 pub use laws::catalogs_have_one_reading;
 pub use log::Log;

@@ -1,8 +1,8 @@
 -- The entries of a journal whose steps and deliveries are kept apart.
-use Rattle.std.proofs.Common.{◌≡◌, ℕ, suc, ◌+◌, List, [], ◌∷◌, ◌++◌, length, length-append, refl}
+use Rattle.std.proofs.Common.{◌≡◌, ℕ, zero, suc, ◌+◌, List, [], ◌∷◌, ◌++◌, length, length-append, refl}
 use Rattle.std.proofs.Common.{ap, arith}
 use Rattle.std.proofs.Common.{inl, inr, map, ◌∙◌}
-use Rattle.std.specs.Prelude.{is_some}
+use Rattle.std.specs.Prelude.{Option, None, Some, is_some, option_and_then, slice_get}
 use Rattle.std.specs.List.{list_any}
 use Rattle.std.proofs.lemmas.Bool.{cases_Bool}
 use Rattle.std.proofs.lemmas.List.{map-append}
@@ -13,7 +13,7 @@ use Rattle.view_meaning.specs.Journal.{accepted, is_same}
 use Rattle.raw_load.specs.Books.{LoadOf, RawBookOf, deliveries_of, place_in}
 use Rattle.claim_core.specs.declared.step.Step.{Step}
 use Rattle.claim_core.specs.declared.step.Step.TheVariants.{Load, Install}
-use Rattle.claim_core.specs.JournalView.{AreSteps, entries_of, loads_in}
+use Rattle.claim_core.specs.JournalView.{AreSteps, entries_of, installed_after, key_stepped, loads_in}
 
 -- there is an entry for each step
 pub length-entries_of : (steps : List Step) (deliveries : List DeliveryOf)
@@ -89,6 +89,20 @@ accepted-entries_of (Load ∷ steps) (delivery ∷ later) loads =
     ap (λ rest. delivery ∷ rest) (accepted-entries_of steps later (omega (arith, loads)))
 accepted-entries_of (Install key at ∷ steps) deliveries loads =
     accepted-entries_of steps deliveries loads
+
+-- which entry is an install of which partition stands in the steps alone
+pub installed-steps : (steps : List Step) (deliveries : List DeliveryOf) (count : ℕ)
+    → loads_in steps ≡ length deliveries
+    → installed_after (entries_of steps deliveries) count
+    ≡ option_and_then key_stepped (slice_get steps count)
+installed-steps [] deliveries count loads = refl
+installed-steps (Load ∷ steps) [] count loads = absurd (omega (arith, loads))
+installed-steps (Load ∷ steps) (delivery ∷ later) zero loads = refl
+installed-steps (Load ∷ steps) (delivery ∷ later) (suc count) loads =
+    installed-steps steps later count (omega (arith, loads))
+installed-steps (Install key at ∷ steps) deliveries zero loads = refl
+installed-steps (Install key at ∷ steps) deliveries (suc count) loads =
+    installed-steps steps deliveries count loads
 
 -- a load at the end of a book is a delivery at the end
 pub deliveries_of-load : (old new : RawBookOf) (place : ℕ) (delivery : DeliveryOf)

@@ -1,5 +1,7 @@
 -- The entries of a journal, from its deliveries and the order of its steps, which are kept apart.
-use Rattle.std.specs.Prelude.{ℕ, suc, ◌≡◌, List, [], ◌∷◌, length}
+use Rattle.std.specs.Prelude.{ℕ, suc, ◌≡◌, List, [], ◌∷◌, length, Option, None, Some}
+use Rattle.std.specs.Prelude.{option_and_then, slice_get}
+use Rattle.desc_types.specs.declared.table.Key.{Key}
 use Rattle.desc_types.specs.Deliveries.{DeliveryOf}
 use Rattle.view_meaning.specs.declared.journal.Entry.{Entry}
 use Rattle.view_meaning.specs.declared.journal.Entry.TheVariants as entry
@@ -28,6 +30,20 @@ entries_of [] deliveries = []
 entries_of (Load ∷ steps) [] = []
 entries_of (Load ∷ steps) (delivery ∷ later) = entry.Load delivery ∷ entries_of steps later
 entries_of (Install key at ∷ steps) deliveries = entry.Install key at ∷ entries_of steps deliveries
+
+-- the partition that an entry computed, if it is an install
+abbrev pub key_installed : Entry → Option Key
+key_installed (entry.Load delivery) = None
+key_installed (entry.Install key at) = Some key
+
+-- the same of the entry after so many others
+abbrev pub installed_after : List Entry → (count : ℕ) → Option Key
+installed_after journal count = option_and_then key_installed (slice_get journal count)
+
+-- the same of a step
+abbrev pub key_stepped : Step → Option Key
+key_stepped Load = None
+key_stepped (Install key at) = Some key
 
 -- there is a delivery for each load
 pub record AreSteps (steps : List Step) (deliveries : List DeliveryOf) : Type 0 where

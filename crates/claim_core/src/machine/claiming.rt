@@ -44,8 +44,9 @@ impl Core {
         self.stale.next_unsettled(from)
     }
 
-    /// Whether a partition is ready to be claimed. Any key may be asked for.
-    fn is_ready(&self, key: Key) -> bool
+    /// Whether a partition is ready to be claimed: it is stale, its sources are settled, and nobody
+    /// claimed it. Any key may be asked for. It takes no memory.
+    pub fn is_ready(&self, key: Key) -> bool
         ensures exact { TellsReady self.now.desc self.now.state key result }
     {
         self.is_part(key)

@@ -21,7 +21,7 @@ use view_meaning::source_parts;
 
 impl Core {
     /// Whether a key names a partition: its table is there, and it begins in time.
-    pub(super) fn is_part(&self, key: Key) -> bool
+    pub fn is_part(&self, key: Key) -> bool
         ensures exact { result ≡ is_part self.now.desc key }
     {
         match self.served.desc.tables.get(usize::from(key.table)) {

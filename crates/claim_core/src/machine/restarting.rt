@@ -34,8 +34,9 @@ impl Core {
         Ok(core)
     }
 
-    /// Adds the next entry of a journal that was found.
-    fn restore(&mut self, entry: Entry) -> Result<(), Memory>
+    /// Adds the next entry of a journal that was found, to a core that was made by [`Core::new`] and
+    /// this call alone. After an `Err` the journal cannot be read on.
+    pub fn restore(&mut self, entry: Entry) -> Result<(), Memory>
         requires found { IsFound self.old.desc self.old.state.journal self.old }
         requires fits { FitsEntry self.old.desc entry }
         requires follows { MayFollow self.old.desc self.old.state.journal entry }

@@ -1,6 +1,7 @@
 //! What the core tells. None of it changes anything.
 
-ghost use Rattle.std.specs.Prelude.{◌≡◌, ◌<◌, IfOk, Some, length, nat_eq, slice_get, true};
+ghost use Rattle.std.specs.Prelude.{◌≡◌, ◌<◌, IfOk, Some, length, nat_eq, option_and_then, slice_get};
+ghost use Rattle.std.specs.Prelude.{true};
 ghost use Rattle.view_meaning.specs.Drains.{unsettled};
 ghost use Rattle.view_meaning.specs.Journal.{accepted};
 ghost use Rattle.view_meaning.specs.Marks.{mark_of};
@@ -14,9 +15,11 @@ ghost use Rattle.query_pin.specs.Kept.{entry_in};
 ghost use Rattle.query_pin.specs.Pins.{versions_at};
 ghost use Rattle.machine_meaning.specs.Events.{claim_at};
 ghost use Rattle.claim_core.specs.Cores.{IsNextDead};
+ghost use Rattle.claim_core.specs.JournalView.{installed_after, key_stepped};
 
 use crate::claims::find_claim;
 use crate::machine::Core;
+use crate::step::Step;
 use depot_cell::Memory;
 use depot_reclaim::next_dead;
 use desc_types::{AcceptedDesc, Key};
@@ -99,6 +102,13 @@ impl Core {
         self.kept.entry_of(key, version)
     }
 
+    /// The partition that the entry after so many others computed, if it is an install.
+    pub fn installed_after(&self, count: u64) -> Option<Key>
+        ensures exact { result ≡ installed_after self.now.state.journal count }
+    {
+        installed_at(&self.order, count)
+    }
+
     /// The first dead version from a partition on: one that is held, is not the latest, and that
     /// nobody reads. It takes no memory.
     pub fn next_dead(&self, from: Key) -> Option<Dead>
@@ -120,5 +130,16 @@ impl Core {
         ensures exact { slice_get (versions_at self.now.state.pins id) index ≡ Some result }
     {
         self.pins.item(id, index)
+    }
+}
+
+/// The partition that the step at a place, from 0, computed, if it is an install.
+fn installed_at(order: &[Step], place: u64) -> Option<Key>
+    ensures exact { result ≡ option_and_then key_stepped (slice_get order.now place) }
+{
+    match order.get(place as usize) {
+        Some(Step::Install { key, .. }) => Some(*key),
+        Some(Step::Load) => None,
+        None => None,
     }
 }
