@@ -1,0 +1,12 @@
+pub mod Depots
+pub mod Images
+pub mod Claims
+pub mod Noted
+pub mod Found
+pub mod Faults
+pub mod Recovered
+pub mod Shelving
+pub mod Sweeping
+pub mod Typed
+pub mod Laws
+pub mod Growth
