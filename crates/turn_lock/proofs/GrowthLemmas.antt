@@ -35,7 +35,7 @@ module _ {A : Type 0} where
       prefix_of one other begins.0 also.0 (begins.1 ∙ sym also.1) shorter
 
   -- a fact of the longer log, by which of the two is the longer
-  by_longer : (Fact : List A → Type 0) (one other : List A)
+  pub by_longer : (Fact : List A → Type 0) (one other : List A)
       → (length one ≤ length other → Fact other) → (length other ≤ length one → Fact one)
       → Fact (longer one other)
   by_longer Fact one other if_other if_one = pick (nat_lt (length one) (length other)) refl

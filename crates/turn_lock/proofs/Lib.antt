@@ -5,5 +5,6 @@ pub mod SeatLemmas
 pub mod SplitLemmas
 pub mod JoinLemmas
 pub mod ViewLemmas
+pub mod RestLemmas
 pub mod TurnSteps
 pub mod PassSteps

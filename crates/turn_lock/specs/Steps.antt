@@ -62,6 +62,13 @@ module _ {V S E P : Type 0} (m : Meaning V S E P) where
       × Tells m before.0.known value))
       × (found ≢ st.first → after ≡ before)
 
+  -- the turn was taken with the value, whose slot is empty now; or the seat is as it was
+  abbrev pub Attempts : Me (Option V) (View V S E P) → (taken : Option V)
+      → Me (Option V) (View V S E P) → Type 0
+  Attempts before None after = after ≡ before
+  Attempts before (Some value) after =
+      (after ≡ (holding before.0.known value, (0, None) ∷ before.1)) × Tells m before.0.known value
+
   -- the turn was freed, with the value at home
   abbrev pub Frees : Step (Option V) → Me (Option V) (View V S E P) → ℕ
       → Me (Option V) (View V S E P) → Type 0

@@ -55,8 +55,6 @@ impl<V: Grows> Turn<V> {
         self.table
             .shared
             .join_seat::<Unite<V>>(&mut pass.seat, seat);
-        if pass.seen < seen {
-            pass.seen = seen;
-        }
+        pass.seen = pass.seen.max(seen);
     }
 }

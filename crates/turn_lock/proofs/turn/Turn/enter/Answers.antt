@@ -1,24 +1,9 @@
-use Rattle.std.proofs.Common.{◌≡◌, ◌∙◌, ◌∷◌, Some, ap, arith, subst, sym}
-use Rattle.atomic_table.specs.Table.{rest}
+use Rattle.std.proofs.Common.{◌∙◌, subst, sym}
 use Rattle.turn_lock.specs.Steps.{IsResting}
-use Rattle.turn_lock.proofs.TurnSteps.{tries}
 use Rattle.turn_lock.proofs.turn.Turn.enter.Goals as goal
 
-pub compare_exchange-requires : goal.compare_exchange-requires
-compare_exchange-requires g c = (
-  c.loop.invariant.0 ∙ c.requires.turn,
-  omega (arith, c.args.self.now.sized.0),
-  tries g.V.Grows.meaning c.args.self.now.table.shared.table_id.slots c.loop.seat.id c.loop.seat.me
-      c.peek-found.result
-      (subst (λ me. IsResting me) (sym c.loop.invariant.1) c.args.pass.rests)
-      c.if-found-eq0.true,
-)
-
-pub exchange-requires : goal.exchange-requires
-exchange-requires g c =
-    let won = c.compare_exchange.ensures.2.0 c.if-compare_exchange-found.true in
-    let slots : c.compare_exchange.new.seat.me.1 ≡ (0, Some won.0) ∷ c.loop.seat.me.1 =
-    λ i. (won.1 i).1 in (
-      c.compare_exchange.ensures.0 ∙ c.loop.invariant.0 ∙ c.requires.turn,
-      (Some won.0, slots ∙ ap (λ slots. (0, Some won.0) ∷ rest slots) (sym slots)),
-    )
+pub attempt-requires : goal.attempt-requires
+attempt-requires g c = record {
+  turn = c.loop.invariant.0 ∙ c.requires.turn;
+  rests = subst (λ me. IsResting me) (sym c.loop.invariant.1) c.args.pass.rests;
+}
