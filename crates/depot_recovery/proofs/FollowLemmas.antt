@@ -1,7 +1,7 @@
--- The test whether an entry may follow a journal (`may_follow`) passes exactly if the entry may.
+-- An entry that may follow a journal passes the test of that (`may_follow`).
 use Rattle.std.proofs.Common.{◌≡◌, ◌&&◌, true, not, ℕ, List, drop, length, nat_le, take}
 use Rattle.std.specs.List.{list_all, list_any}
-use Rattle.std.proofs.lemmas.Bool.{and_from, and_parts, le-leb, leb-true, not-true}
+use Rattle.std.proofs.lemmas.Bool.{and_from, le-leb}
 use Rattle.std.proofs.lemmas.Bool.{not_from_false}
 use Rattle.desc_types.specs.declared.table.Key.{Key}
 use Rattle.desc_types.specs.Descriptions.{DescOf}
@@ -29,15 +29,6 @@ may_claim-MayClaim desc journal key may =
     (and_from (is_part desc key) (is_stale desc journal key) may.part may.stale)
     may.ready
 
--- and only if
-pub MayClaim-may_claim : (desc : DescOf) (journal : List Entry) (key : Key)
-    → may_claim desc journal key ≡ true → MayClaim desc journal key
-MayClaim-may_claim desc journal key passes =
-    let parts = and_parts (is_part desc key && is_stale desc journal key)
-    (list_all (is_settled desc journal) (sources_of desc key)) passes in
-    let stale = and_parts (is_part desc key) (is_stale desc journal key) parts.0 in
-    record { part = stale.0; stale = stale.1; ready = parts.1 }
-
 -- an install that may follow passes
 may_follow-MayInstall : (desc : DescOf) (journal : List Entry) (key : Key) (at : ℕ)
     → MayInstall desc journal key at → may_follow desc journal (entry.Install key at) ≡ true
@@ -50,23 +41,6 @@ may_follow-MayInstall desc journal key at may =
     (le-leb at (length journal) may.past) claimed)
     (not_from_false (list_any (installs key) (drop at journal)) may.alone)
 
--- and no other
-MayInstall-may_follow : (desc : DescOf) (journal : List Entry) (key : Key) (at : ℕ)
-    → may_follow desc journal (entry.Install key at) ≡ true → MayInstall desc journal key at
-MayInstall-may_follow desc journal key at passes =
-    let parts = and_parts (nat_le at (length journal) && may_claim desc (take at journal) key)
-    (not (list_any (installs key) (drop at journal))) passes in
-    let early = and_parts (nat_le at (length journal)) (may_claim desc (take at journal) key)
-    parts.0 in
-    let claimed = MayClaim-may_claim desc (take at journal) key early.1 in
-    record {
-      part = claimed.part;
-      past = leb-true at (length journal) early.0;
-      stale = claimed.stale;
-      ready = claimed.ready;
-      alone = not-true (list_any (installs key) (drop at journal)) parts.1;
-    }
-
 -- an entry that may follow a journal passes
 pub may_follow-MayFollow : (desc : DescOf) (journal : List Entry) (next : Entry)
     → MayFollow desc journal next → may_follow desc journal next ≡ true
@@ -74,11 +48,3 @@ may_follow-MayFollow desc journal (entry.Load delivery) may =
     not_from_false (is_repeat journal delivery) may
 may_follow-MayFollow desc journal (entry.Install key at) may =
     may_follow-MayInstall desc journal key at may
-
--- and no other
-pub MayFollow-may_follow : (desc : DescOf) (journal : List Entry) (next : Entry)
-    → may_follow desc journal next ≡ true → MayFollow desc journal next
-MayFollow-may_follow desc journal (entry.Load delivery) passes =
-    not-true (is_repeat journal delivery) passes
-MayFollow-may_follow desc journal (entry.Install key at) passes =
-    MayInstall-may_follow desc journal key at passes

@@ -1,9 +1,7 @@
 -- What was found in a sound image are its rows: a version that is held has its file.
-use Rattle.std.proofs.Common.{◌≡◌, ◌∙◌, ◌≤◌, ◌-◌, ℕ, zero, suc, List, None, Some, arith, ap, refl}
-use Rattle.std.proofs.Common.{subst, sym, true}
-use Rattle.std.proofs.lemmas.Bool.{false≢true}
-use Rattle.std.proofs.lemmas.Bool.Decides.{nat_tests}
-use Rattle.std.specs.Prelude.{IfSome, IsSome, IsSomeAnd, Ok, Option, Result, length, nat_eq, slice_get}
+use Rattle.std.proofs.Common.{◌≡◌, ◌∙◌, ℕ, zero, suc, List, None, Some, arith, ap, refl}
+use Rattle.std.proofs.Common.{subst, sym}
+use Rattle.std.specs.Prelude.{IfSome, IsSome, IsSomeAnd, Ok, Option, Result, length, slice_get}
 use Rattle.catalog_journal.specs.declared.fault.LogFault.{LogFault}
 use Rattle.catalog_journal.specs.declared.log.Log.{Log}
 use Rattle.catalog_journal.specs.Answers.{Opens}
@@ -13,28 +11,24 @@ use Rattle.claim_core.specs.Cores.{CoreOf, IsFound}
 use Rattle.depot_cell.specs.declared.cell.Cell.{Cell}
 use Rattle.depot_disk.specs.Image.{Image, bytes_in}
 use Rattle.desc_types.specs.declared.table.Key.{Key}
-use Rattle.desc_types.specs.Descriptions.{DescOf}
-use Rattle.machine_meaning.specs.States.{IsGood, MayBeHeld, State, latest}
+use Rattle.machine_meaning.specs.States.{State, latest}
 use Rattle.query_pin.specs.declared.input.Input.{Input}
 use Rattle.query_pin.specs.Kept.{entry_in}
 use Rattle.row_codec.specs.Laws.{AreRowsOf}
 use Rattle.row_codec.specs.Spelling.{rows_bytes}
+use Rattle.row_codec.proofs.CodecLemmas.{same_Ok}
 use Rattle.version_store.specs.Laws.{FilesAreReadAgain}
 use Rattle.version_store.specs.Shelves.{Kept, kept_in}
-use Rattle.view_meaning.specs.declared.journal.Entry.{Entry}
 use Rattle.view_meaning.specs.declared.journal.Entry.TheVariants as entry
 use Rattle.view_meaning.specs.Contents.{content, latest_content}
-use Rattle.view_meaning.specs.Versions.{installs}
-use Rattle.view_meaning.proofs.AmongLemmas.{is_key-same}
 use Rattle.depot_recovery.specs.declared.found.Found.{Found}
-use Rattle.depot_recovery.specs.Depots.{DepotOf, is_latest, types_of}
+use Rattle.depot_recovery.specs.Depots.{DepotOf, types_of}
 use Rattle.depot_recovery.specs.Found.{found_in, journal_in, with_files}
 use Rattle.depot_recovery.specs.Images.{IsSoundAs}
 use Rattle.depot_recovery.specs.Laws.{FindsWhatIsHeld}
 use Rattle.depot_recovery.specs.Recovered.{HoldsSound, IsFoundAs, IsFoundIn, KeepsContents}
 use Rattle.depot_recovery.specs.Recovered.{KeepsHeld, KeepsRead, Refuses}
-use Rattle.depot_recovery.proofs.LastInstallLemmas.{IsLastInstall-told, is_latest-last}
-use Rattle.depot_recovery.proofs.ReadOnLemmas.{none-within}
+use Rattle.depot_recovery.proofs.LatestHeldLemmas.{IsHeldAt-held}
 use Rattle.depot_recovery.proofs.ReplayLemmas.{IsFound-own}
 
 -- what is found in an image, if the journal of its catalogue is this
@@ -67,76 +61,6 @@ fault-found (Some image) mid new log bodies depot fault same again opens journal
     (subst (λ (held : Option Image). IfSome held (λ image.
     Refuses (with_files image depot) fault)) (again ∙ same) refuses)
 
--- the entry with a number is the latest install of a partition
-record IsLatestInstall (journal : List Entry) (key : Key) (number : ℕ) : Type 0 where
-  pub place : ℕ
-  pub at : ℕ
-  pub is : number ≡ suc place
-  pub there : slice_get journal place ≡ Some (entry.Install key at)
-  pub newest : is_latest journal number key ≡ true
-
--- an entry that installs a partition is an install of it
-record IsInstallOf (key : Key) (next : Entry) : Type 0 where
-  pub at : ℕ
-  pub same : next ≡ entry.Install key at
-
-IsInstallOf-installs : (key : Key) (next : Entry) → installs key next ≡ true → IsInstallOf key next
-IsInstallOf-installs key (entry.Load delivery) is = absurd (false≢true is)
-IsInstallOf-installs key (entry.Install installed at) is = record {
-  at = at;
-  same = ap (λ (its : Key). entry.Install its at) (is_key-same key installed is);
-}
-
--- what stands at a place within a journal passes a test of it
-IsInstallOf-there : (journal : List Entry) (key : Key) (place : ℕ) (found : Option Entry)
-    → slice_get journal place ≡ found → suc place ≤ length journal
-    → IfSome found (λ (last : Entry). installs key last ≡ true)
-    → (at : ℕ) × (slice_get journal place ≡ Some (entry.Install key at))
-IsInstallOf-there journal key place None is within passes =
-    absurd (none-within journal place (omega (arith, within)) (sym is))
-IsInstallOf-there journal key place (Some next) is within passes =
-    let install = IsInstallOf-installs key next passes in
-    (install.at, is ∙ ap (λ (its : Entry). Some its) install.same)
-
-IsLatestInstall-held : (desc : DescOf) (state : State) (key : Key) (number : ℕ)
-    → IsGood desc state → entry_in state.held (latest desc state.journal key) ≡ Some number
-    → IsLatestInstall state.journal key number
-IsLatestInstall-held desc state key zero good held =
-    absurd (omega (
-      arith,
-      (subst (λ (told : Option ℕ). IfSome told
-          (MayBeHeld desc state.journal (latest desc state.journal key))) held
-          (good.held.made (latest desc state.journal key))).made.some,
-    ))
-IsLatestInstall-held desc state key (suc place) good held =
-    let read = latest desc state.journal key in
-    let may : MayBeHeld desc state.journal read (suc place) =
-    subst (λ (told : Option ℕ). IfSome told (MayBeHeld desc state.journal read)) held
-    (good.held.made read) in
-    let before : suc place - 1 ≡ place = omega arith in
-    let install = IsInstallOf-there state.journal key place (slice_get state.journal place) refl
-    may.made.past (subst (λ (index : ℕ). IfSome (slice_get state.journal index)
-    (λ (last : Entry). installs key last ≡ true)) before may.made.there) in
-    record {
-      place = place;
-      at = install.0;
-      is = refl;
-      there = install.1;
-      newest = sym (is_latest-last state.journal key (suc place) (suc place)
-          (place, install.0, refl, install.1)
-          (IsLastInstall-told desc state key (Some (suc place)) good held)) ∙ same-number (suc place);
-    }
-  where
-    same-number : (number : ℕ) → nat_eq number number ≡ true
-    same-number number = grind (arith, nat_tests)
-
--- what two equal answers hold is the same
-same_Ok : {X : Type 0} (x y : X) → ◌≡◌ {A = Result X LogFault} (Ok x) (Ok y) → x ≡ y
-same_Ok x y same = cc
-
-same_read : {X : Type 0} (x y : X) → ◌≡◌ {A = Result X ℕ} (Ok x) (Ok y) → x ≡ y
-same_read x y same = cc
-
 -- the rows that are kept under an entry are the content of its version, if its file has that
 kept-content : (kept : Kept) (number : ℕ) (wanted : List (List Cell))
     (Right : List (List Cell) → Type 0) (found : Option (List (List Cell)))
@@ -158,27 +82,30 @@ own-of core lengths = record {
 module _ (files : FilesAreReadAgain) (image : Image) (core : CoreOf) (lengths : List ℕ)
     (kept : Kept) where
   -- the rows that are kept of the latest version of a partition
-  kept-latest : IsSoundAs (own-of core lengths) image → IsGood core.desc core.state → KeepsHeld core kept
-      → KeepsRead (own-of core lengths) image core kept → (key : Key) (number : ℕ)
+  kept-latest : IsSoundAs (own-of core lengths) image → IsFound core.desc core.state.journal core
+      → KeepsHeld core kept → KeepsRead (own-of core lengths) image core kept
+      → (key : Key) (number : ℕ)
       → entry_in core.state.held (latest core.desc core.state.journal key) ≡ Some number
       → kept number ≡ Some (latest_content core.desc core.state.journal key)
-  kept-latest sound good holds read key zero held =
-      absurd (omega (arith, (IsLatestInstall-held core.desc core.state key zero good held).is))
-  kept-latest sound good holds read key (suc place) held =
+  kept-latest sound found holds read key zero held =
       let version = latest core.desc core.state.journal key in
-      let install = IsLatestInstall-held core.desc core.state key (suc place) good held in
-      let same : install.place ≡ place = omega (arith, install.is) in
-      let there = subst (λ (index : ℕ). slice_get core.state.journal index
-      ≡ Some (entry.Install key install.at)) same install.there in
-      let rows = sound.latest place key install.at there install.newest in
-      kept-content kept (suc place) (latest_content core.desc core.state.journal key)
+      absurd (omega (arith, (IsHeldAt-held core version zero found held).some))
+  kept-latest sound found holds read key (suc place) held =
+      let journal = core.state.journal in
+      let version = latest core.desc journal key in
+      let here = IsHeldAt-held core version (suc place) found held in
+      let at = here.install in
+      let there : slice_get journal place ≡ Some (entry.Install key at.1) =
+      ap (slice_get journal) (omega (arith, at.2)) ∙ at.3 in
+      let rows = sound.latest place key at.1 there here.latest in
+      kept-content kept (suc place) (latest_content core.desc journal key)
       (AreRowsOf (types_of core.desc key.table)) (kept (suc place)) refl
       (holds.each version (suc place) held)
-      (λ found is. same_read found (latest_content core.desc core.state.journal key)
-      (sym (read version place (length (rows_bytes (latest_content core.desc core.state.journal key)))
-      found held rows.stored.stated is)
+      (λ told is. same_Ok
+      (sym (read version place (length (rows_bytes (latest_content core.desc journal key))) told
+      held rows.stored.stated is)
       ∙ files.rows image (types_of core.desc key.table) (suc place)
-      (latest_content core.desc core.state.journal key) rows.typed rows.stored.file))
+      (latest_content core.desc journal key) rows.typed rows.stored.file))
 
   -- and those of each version that is held: only latest ones are
   contents-own : IsSoundAs (own-of core lengths) image → IsFound core.desc core.state.journal core
@@ -187,7 +114,7 @@ module _ (files : FilesAreReadAgain) (image : Image) (core : CoreOf) (lengths : 
       let last = (found.held.others asked (rw held refl)).last in
       let same : asked ≡ latest core.desc core.state.journal asked.key =
       ap (λ (number : ℕ). record { key = asked.key; version = number }) last in
-      kept-latest sound found.good holds read asked.key number
+      kept-latest sound found holds read asked.key number
       (ap (λ (its : Input). entry_in core.state.held its) (sym same) ∙ held)
       ∙ ap (λ (number : ℕ). Some (content core.desc core.state.journal asked.key number)) (sym last)
 
@@ -201,7 +128,7 @@ pub HoldsSound-found : FilesAreReadAgain → FindsWhatIsHeld → (depot : DepotO
     (found : Found) → IsSoundAs depot image → IsFoundIn image found → HoldsSound depot found
 HoldsSound-found files finds depot image found sound is =
     let same : is.depot ≡ depot =
-    same_Ok is.depot depot (sym is.there ∙ finds depot image sound) in
+    same_Ok (sym is.there ∙ finds depot image sound) in
     let mine = subst (λ (its : DepotOf). IsFoundAs its found) same is.is in
     let own = depot-own depot found mine in
     record {

@@ -23,7 +23,7 @@ use Rattle.query_pin.specs.declared.input.Input.{Input}
 use Rattle.query_pin.specs.Kept.{entry_in}
 use Rattle.machine_meaning.specs.States.{IsGood, IsMadeBy, MayBeHeld, State, latest}
 use Rattle.depot_recovery.specs.Depots.{is_latest}
-use Rattle.depot_recovery.specs.Recovered.{IsInstallAt, IsLastInstall}
+use Rattle.depot_recovery.specs.Latest.{IsInstallAt, IsLastInstall}
 use Rattle.depot_recovery.proofs.ListLemmas.{length-filter_some, list_any-drop_before}
 use Rattle.depot_recovery.proofs.ListLemmas.{list_any-drop_last, list_any-drop_none}
 use Rattle.depot_recovery.proofs.ViewPartLemmas.{is_raw-IsPartOfView}

@@ -16,7 +16,7 @@ use Rattle.view_meaning.specs.Versions.{installs}
 use Rattle.view_meaning.proofs.AmongLemmas.{is_key-same}
 use Rattle.depot_recovery.specs.declared.shelving.Latest.{Latest}
 use Rattle.depot_recovery.specs.Depots.{DepotOf, is_latest}
-use Rattle.depot_recovery.specs.Recovered.{IsInstallAt, IsLastInstall}
+use Rattle.depot_recovery.specs.Latest.{IsInstallAt, IsLastInstall}
 use Rattle.depot_recovery.specs.Shelving.{latest_in, latest_or}
 use Rattle.depot_recovery.proofs.LastInstallLemmas.{IsLastInstall-told, is_latest-last}
 

@@ -9,6 +9,7 @@ use Rattle.row_codec.specs.Bodies.{read_body}
 use Rattle.row_codec.specs.declared.fault.CodecFault.{CodecFault}
 use Rattle.row_codec.specs.declared.fault.CodecFault.TheVariants.{At, Memory}
 use Rattle.row_codec.specs.Answers.{Tells}
+use Rattle.row_codec.proofs.CodecLemmas.{same_Ok}
 use Rattle.std.specs.Result.{is_ok}
 use Rattle.std.proofs.lemmas.Bool.{false≢true}
 use Rattle.claim_core.specs.Cores.{CoreOf}
@@ -17,8 +18,9 @@ use Rattle.view_meaning.specs.declared.journal.Entry.TheVariants as entry
 use Rattle.depot_recovery.specs.declared.shelving.Latest.{Latest}
 use Rattle.depot_recovery.specs.Depots.{body_of, is_latest}
 use Rattle.depot_recovery.specs.Found.{lengths_in}
-use Rattle.depot_recovery.specs.Recovered.{IsInstallAt, IsReplayOf, depot_by, latest_of}
-use Rattle.depot_recovery.specs.Shelving.{latest_in}
+use Rattle.depot_recovery.specs.Latest.{IsInstallAt}
+use Rattle.depot_recovery.specs.Replaying.{IsReplayOf, depot_by}
+use Rattle.depot_recovery.specs.Shelving.{latest_in, latest_of}
 use Rattle.depot_recovery.proofs.ShelveLemmas.{StandsAt, StandsAt-bodies, StandsAt-read}
 
 -- what a body says of its entry
@@ -42,10 +44,6 @@ IsInstallBy-of : (journal : List Entry) (place len : ℕ) (next : Entry)
 IsInstallBy-of journal place len (entry.Load delivery) there = tt
 IsInstallBy-of journal place len (entry.Install key at) there = (place, at, refl, there)
 
--- what two equal answers hold is the same
-same_Ok : {X E : Type 0} (x y : X) → ◌≡◌ {A = Result X E} (Ok x) (Ok y) → x ≡ y
-same_Ok x y same = cc
-
 -- what is read at a number
 pub record IsReadAt (bodies : List (List ℕ)) (core : CoreOf) (number : ℕ) (stated : Body)
     : Type 0 where
@@ -59,8 +57,7 @@ IsReadAt-stands : (bodies : List (List ℕ)) (core : CoreOf) (place : ℕ) (byte
 IsReadAt-stands bodies core place bytes stated stands read =
     let journal = core.state.journal in
     let same : body_of stands.next stands.len ≡ stated =
-    same_Ok (body_of stands.next stands.len) stated
-    (sym (StandsAt-read journal (lengths_in bodies) place bytes stands) ∙ read) in
+    same_Ok (sym (StandsAt-read journal (lengths_in bodies) place bytes stands) ∙ read) in
     record {
       latest = rw (stands.there, stands.stated)
           (sym (latest_by-of journal (suc place) stands.len stands.next)

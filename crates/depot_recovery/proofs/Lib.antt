@@ -27,8 +27,9 @@ pub mod LastInstallLemmas
 pub mod ReplayLemmas
 pub mod SweepLemmas
 pub mod ShelveLemmas
+pub mod ReadingLemmas
 pub mod ReadOnLemmas
-pub mod FoundLemmas
 pub mod LatestLemmas
 pub mod LatestHeldLemmas
+pub mod FoundLemmas
 pub mod ShelvedLemmas

@@ -1,62 +1,33 @@
 -- How a journal is read record by record: what was read so far, and what is still to come of it.
 use Rattle.std.proofs.Common.{◌≡◌, ◌∙◌, ◌<◌, ◌≤◌, ◌^◌, ℕ, zero, suc, ◌+◌, List, [], ◌∷◌, ◌++◌, arith}
 use Rattle.std.proofs.Common.{Some, ap, drop, get_or, length, length-append, refl, subst, sym, take}
-use Rattle.std.specs.Prelude.{IfSome, Ok, Err, Result, None, Option, filter_map, slice_get, unwrap_or}
+use Rattle.std.specs.Prelude.{IfSome, Ok, Result, None, Option, filter_map, slice_get, unwrap_or}
 use Rattle.std.specs.List.{AllZip}
 use Rattle.std.proofs.Math.Seq.{drop-cons, take-suc}
 use Rattle.std.proofs.lemmas.List.{drop_all, take-append-drop, take_all}
 use Rattle.std.proofs.lemmas.List.Elements.{filter_map-append}
 use Rattle.std.proofs.lemmas.Option.{none-some, same_Some, slice_get_within, unwrap_or-slice_get}
 use Rattle.catalog_journal.specs.declared.fault.LogFault.{LogFault}
-use Rattle.catalog_journal.specs.declared.fault.LogFault.TheVariants as fault
-use Rattle.catalog_journal.specs.Answers.{HasFaultCause, IsLogReading}
 use Rattle.catalog_journal.specs.Catalog.{open_records}
 use Rattle.catalog_journal.proofs.SpellLemmas.{length-open_records-push}
 use Rattle.desc_types.specs.Accepted.{IsAccepted}
 use Rattle.desc_types.specs.Descriptions.{DescOf}
 use Rattle.depot_disk.specs.Image.{Image}
-use Rattle.depot_disk.specs.State.{DiskState, Elapses, Unchanged}
-use Rattle.depot_disk.proofs.StateLemmas.{Elapses-both, Unchanged-both}
 use Rattle.row_codec.specs.Bodies.{body_bytes}
 use Rattle.row_codec.proofs.BodyLemmas.{bodies_law}
 use Rattle.view_meaning.specs.declared.journal.Entry.{Entry}
-use Rattle.depot_recovery.specs.Depots.{body_of, entry_bodies, first_body}
+use Rattle.depot_recovery.specs.Depots.{DepotOf, body_of, entry_bodies, first_body}
 use Rattle.depot_recovery.specs.Found.{◌>>=◌, desc_in, entries_from, journal_in, len_in, lengths_in}
 use Rattle.depot_recovery.specs.Found.{next_entry, stated_len}
 use Rattle.depot_recovery.specs.Images.{IsWritable}
 use Rattle.depot_recovery.specs.Noted.{AreOfBodies}
-use Rattle.depot_recovery.specs.Recovered.{HasRead, IsReplayOf, ReadsMore, ReadsNext, Refuses}
-use Rattle.depot_recovery.specs.Recovered.{ReplayOf, depot_by}
+use Rattle.depot_recovery.specs.Recovered.{Refuses}
+use Rattle.depot_recovery.specs.Replaying.{HasRead, IsReplayOf, ReadsMore, ReadsNext, ReplayOf}
+use Rattle.depot_recovery.specs.Replaying.{depot_by}
 use Rattle.depot_recovery.proofs.BodiesLemmas.{entry_bodies-push, lengths-same}
+use Rattle.depot_recovery.proofs.ReadingLemmas.{Refuses-passed}
 use Rattle.depot_recovery.proofs.SoundLemmas.{len_of-body_of}
 use Rattle.depot_recovery.proofs.ZipLemmas.{AllZip-append}
-
--- a reading after others that went well
-pub IsLogReading-then : {T : Type 0} (old mid new : DiskState) (result : Result T LogFault)
-    → Unchanged old mid → Elapses old mid → mid.faults ≡ old.faults
-    → IsLogReading mid new result → IsLogReading old new result
-IsLogReading-then {T = T} old mid new result same time faults next = record {
-  same = Unchanged-both old mid new same next.same;
-  time = Elapses-both old mid new time next.time next.same.no_fewer;
-  cause = subst (λ (count : ℕ). HasFaultCause {T = T} count new.faults result) faults next.cause;
-}
-
--- a refused reading, of whatever was to be read
-fault-cause : (T U : Type 0) (before now : ℕ) (fault : LogFault)
-    → HasFaultCause {T = T} before now (Err fault) → HasFaultCause {T = U} before now (Err fault)
-fault-cause T U before now fault.Exists cause = cause
-fault-cause T U before now fault.NotFound cause = cause
-fault-cause T U before now (fault.Damaged file place) cause = cause
-fault-cause T U before now fault.DiskFault cause = cause
-fault-cause T U before now fault.Memory cause = cause
-
-pub IsLogReading-err : {T U : Type 0} (old new : DiskState) (fault : LogFault)
-    → IsLogReading {T = T} old new (Err fault) → IsLogReading {T = U} old new (Err fault)
-IsLogReading-err {T = T} {U = U} old new fault reading = record {
-  same = reading.same;
-  time = reading.time;
-  cause = fault-cause T U old.faults new.faults fault reading.cause;
-}
 
 -- the element at a place, as the next one of a list
 here : {X : Type 0} (xs : List X) (place : ℕ) (x : X) → slice_get xs place ≡ Some x
@@ -145,11 +116,16 @@ length-open_records-front (body ∷ bodies) more =
       length-append body (open_records (bodies ++ more)),
     )
 
+-- the depot that the rest of some bodies tells, after the journal so far
+abbrev told_by : Image → (bodies rest : List (List ℕ)) → ReplayOf → Result DepotOf LogFault
+told_by image bodies rest replay = do
+  entries ← entries_from replay.core.desc image replay.core.state.journal replay.gate rest
+  Ok (record { desc = replay.core.desc; entries = entries; lengths = lengths_in bodies })
+
 -- what the bodies tell is what those from a number on tell after the journal so far
 abbrev pub GoesOn : Image → (bodies : List (List ℕ)) → (number : ℕ) → ReplayOf → Type 0
-GoesOn image bodies number replay = journal_in image bodies ≡ (entries_from replay.core.desc image
-    replay.core.state.journal replay.gate (drop number bodies) >>= (λ (entries : List Entry). Ok
-    (record { desc = replay.core.desc; entries = entries; lengths = lengths_in bodies })))
+GoesOn image bodies number replay =
+    journal_in image bodies ≡ told_by image bodies (drop number bodies) replay
 
 -- the records before a number were read, and those from it on are still to come
 pub record ReadsOn (holds : Option Image) (bodies : List (List ℕ)) (number : ℕ)
@@ -204,17 +180,15 @@ GoesOn-next image bodies number bytes old new next there more found journal goes
 
 -- the next record has the fault that was found
 fault-GoesOn : (image : Image) (bodies : List (List ℕ)) (number : ℕ) (bytes : List ℕ)
-    (replay : ReplayOf) (fault : LogFault) → slice_get bodies number ≡ Some bytes
+    (replay : ReplayOf) (refused : LogFault) → slice_get bodies number ≡ Some bytes
     → GoesOn image bodies number replay
-    → Refuses (next_entry replay.core.desc image replay.core.state.journal replay.gate bytes) fault
-    → Refuses (journal_in image bodies) fault
-fault-GoesOn image bodies number bytes replay fault.NotFound there goes found =
-    goes ∙ rw (drop-more bodies number bytes there, found) refl
-fault-GoesOn image bodies number bytes replay (fault.Damaged file place) there goes found =
-    goes ∙ rw (drop-more bodies number bytes there, found) refl
-fault-GoesOn image bodies number bytes replay fault.Exists there goes found = found
-fault-GoesOn image bodies number bytes replay fault.DiskFault there goes found = tt
-fault-GoesOn image bodies number bytes replay fault.Memory there goes found = tt
+    → Refuses (next_entry replay.core.desc image replay.core.state.journal replay.gate bytes) refused
+    → Refuses (journal_in image bodies) refused
+fault-GoesOn image bodies number bytes replay refused there goes found =
+    subst (λ (finding : Result DepotOf LogFault). Refuses finding refused)
+    (sym (goes ∙ ap (λ (rest : List (List ℕ)). told_by image bodies rest replay)
+    (drop-more bodies number bytes there)))
+    (Refuses-passed _ _ refused (Refuses-passed _ _ refused found))
 
 pub fault-ReadsOn : (holds now : Option Image) (bodies : List (List ℕ)) (number : ℕ)
     (bytes : List ℕ) (replay : ReplayOf) (fault : LogFault) → now ≡ holds

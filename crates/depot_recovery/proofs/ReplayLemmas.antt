@@ -19,8 +19,7 @@ use Rattle.row_codec.specs.Bodies.{IsBody, body_bytes}
 use Rattle.depot_recovery.specs.Claims.{may_follow}
 use Rattle.depot_recovery.specs.Found.{len_of}
 use Rattle.depot_recovery.specs.Noted.{AreNoted, AreUpToDate, ClaimsOf}
-use Rattle.depot_recovery.specs.Recovered.{HasRead, IsReplayOf, ReadsMore, ReplayOf, StatesEntry}
-use Rattle.depot_recovery.proofs.FollowLemmas.{MayFollow-may_follow}
+use Rattle.depot_recovery.specs.Replaying.{HasRead, IsReplayOf, ReadsMore, ReplayOf, StatesEntry}
 use Rattle.depot_recovery.proofs.NotedLemmas.{AreNoted-grown}
 
 -- whether a number has a place tells whether it is a repeat
@@ -85,7 +84,6 @@ ReadsMore-restored bytes stated next old core claims body spelled states may upt
         delivery = states.delivery;
         body = subst IsBody states.same body;
       };
-      follows = MayFollow-may_follow old.core.desc old.core.state.journal next may;
       desc = found.served;
       journal = journal;
       found = IsFound-own _ _ core found;

@@ -1,9 +1,9 @@
 -- What a shelf keeps of the entries so far, and which files of them were fine.
-use Rattle.std.proofs.Common.{◌≡◌, ◌∙◌, ◌+◌, ◌<◌, ℕ, zero, suc, List, [], ◌∷◌, Some, None}
+use Rattle.std.proofs.Common.{◌≡◌, ◌∙◌, ◌+◌, ◌<◌, ℕ, zero, suc, List, Some, None}
 use Rattle.std.proofs.Common.{ap, arith, inl, inr, length, nat_eq, refl, subst, sym, true, drop}
 use Rattle.std.specs.Prelude.{◌≢◌, ⊤, Option, Result, Ok, Err, IfSome, IsSome, IsSomeAnd, is_some, slice_get}
 use Rattle.std.proofs.lemmas.Bool.{cases_Bool, cases_lt, false≢true}
-use Rattle.std.proofs.lemmas.Option.{none-some, same_Some}
+use Rattle.std.proofs.lemmas.Option.{same_Some}
 use Rattle.std.specs.Result.{is_ok}
 use Rattle.claim_core.specs.Cores.{CoreOf}
 use Rattle.query_pin.specs.declared.input.Input.{Input}
@@ -11,15 +11,12 @@ use Rattle.query_pin.specs.Kept.{entry_in}
 use Rattle.machine_meaning.specs.States.{latest}
 use Rattle.std.proofs.lemmas.List.{drop_all}
 use Rattle.catalog_journal.specs.declared.fault.LogFault.{LogFault}
-use Rattle.catalog_journal.specs.declared.fault.LogFault.TheVariants as fault
 use Rattle.depot_cell.specs.declared.cell.Cell.{Cell}
 use Rattle.depot_disk.specs.Image.{Image}
-use Rattle.depot_disk.specs.State.{DiskState}
-use Rattle.depot_disk.proofs.StateLemmas.{Elapses-both, Elapses-same, Unchanged-both, Unchanged-same}
-use Rattle.catalog_journal.specs.Answers.{HasFaultCause, IsLogReading}
 use Rattle.std.proofs.lemmas.Bool.Decides.{nat_tests}
 use Rattle.desc_types.specs.Descriptions.{DescOf}
 use Rattle.row_codec.specs.Laws.{AreRowsOf}
+use Rattle.row_codec.proofs.CodecLemmas.{same_Ok}
 use Rattle.version_store.specs.Reading.{rows_in}
 use Rattle.version_store.specs.Shelves.{Kept, KeepsAlso, KeepsNothing, ShelfOf, kept_in}
 use Rattle.view_meaning.specs.declared.journal.Entry.{Entry}
@@ -27,23 +24,15 @@ use Rattle.view_meaning.specs.declared.journal.Entry.TheVariants as entry
 use Rattle.depot_recovery.specs.declared.shelving.Latest.{Latest}
 use Rattle.depot_recovery.specs.Depots.{DepotOf, is_latest, types_of}
 use Rattle.depot_recovery.specs.Found.{◌>>=◌, check_file, check_files, in_file, with_files}
-use Rattle.depot_recovery.specs.Recovered.{IsReplayOf, KeepsHeld, KeepsRead, Refuses, Shelves}
-use Rattle.depot_recovery.specs.Recovered.{depot_by, latest_of}
-use Rattle.depot_recovery.specs.Shelving.{IsKeptOf, ReadsBefore, ShelvesBefore, ShelvesNext}
-use Rattle.depot_recovery.specs.Shelving.{files_from, latest_in, rows_found}
+use Rattle.depot_recovery.specs.Recovered.{KeepsHeld, KeepsRead, Refuses}
+use Rattle.depot_recovery.specs.Replaying.{IsReplayOf, depot_by}
+use Rattle.depot_recovery.specs.Shelving.{IsKeptOf, ReadsBefore, Shelves, ShelvesBefore}
+use Rattle.depot_recovery.specs.Shelving.{ShelvesNext, files_from, latest_in, latest_of, rows_found}
 use Rattle.depot_recovery.proofs.BodiesLemmas.{length-bodies_of, lengths-same}
 use Rattle.depot_recovery.proofs.LatestHeldLemmas.{IsHeldAt-held, held-latest_in, latest_in-held}
 use Rattle.depot_recovery.proofs.LatestHeldLemmas.{place_there}
-
--- a refusal of a step is one of all
-pub Refuses-passed : {A B : Type 0} (finding : Result A LogFault) (next : A → Result B LogFault)
-    (refused : LogFault) → Refuses finding refused → Refuses (finding >>= next) refused
-Refuses-passed finding next fault.NotFound refuses = ap (λ finding. finding >>= next) refuses
-Refuses-passed finding next (fault.Damaged file place) refuses =
-    ap (λ finding. finding >>= next) refuses
-Refuses-passed finding next fault.Exists refuses = absurd refuses
-Refuses-passed finding next fault.DiskFault refuses = tt
-Refuses-passed finding next fault.Memory refuses = tt
+use Rattle.depot_recovery.proofs.ReadOnLemmas.{drop-more}
+use Rattle.depot_recovery.proofs.ReadingLemmas.{Refuses-passed}
 
 -- before the first entry nothing is kept, and all files are still to be read
 pub ShelvesBefore-first : (depot : DepotOf) (kept : Kept) → KeepsNothing kept
@@ -114,13 +103,6 @@ check_file-found desc image journal number len (entry.Install key at) =
       | inr older ↦ rw older refl
     ]
 
--- a list from a place on is what stands there, and the rest
-drop-there : {X : Type 0} (xs : List X) (place : ℕ) (x : X) → slice_get xs place ≡ Some x
-    → drop place xs ≡ x ∷ drop (suc place) xs
-drop-there [] place x there = absurd (none-some x there)
-drop-there (first ∷ rest) zero x there = ap (λ x. x ∷ rest) (same_Some first x there)
-drop-there (first ∷ rest) (suc place) x there = drop-there rest place x there
-
 -- the files from a place on: that of its entry, and those after it
 files_from-there : (image : Image) (depot : DepotOf) (place len : ℕ) (next : Entry)
     → slice_get depot.entries place ≡ Some next → slice_get depot.lengths place ≡ Some len
@@ -129,8 +111,8 @@ files_from-there : (image : Image) (depot : DepotOf) (place len : ℕ) (next : E
     >>= (λ fine. files_from image depot (suc place)))
 files_from-there image depot place len next there stated =
     rw (
-      drop-there depot.entries place next there,
-      drop-there depot.lengths place len stated,
+      drop-more depot.entries place next there,
+      drop-more depot.lengths place len stated,
       there,
       stated,
     )
@@ -215,11 +197,7 @@ with_files-read image bodies core kept replayed reads =
 -- the rows that were found are those in the file
 rows_in-found : (file : ℕ) (finding : Result (List (List Cell)) ℕ) (rows : List (List Cell))
     → (in_file file finding >>= (λ rows. Ok (Some rows))) ≡ Ok (Some rows) → finding ≡ Ok rows
-rows_in-found file (Ok value) rows found = ap Ok (same_rows found)
-  where
-    same_rows : ◌≡◌ {A = Result (Option (List (List Cell))) LogFault} (Ok (Some value))
-        (Ok (Some rows)) → value ≡ rows
-    same_rows same = cc
+rows_in-found file (Ok value) rows found = ap Ok (same_Some value rows (same_Ok found))
 rows_in-found file (Err place) rows found = absurd (false≢true (ap is_ok found))
 
 KeepsRead-all : (image : Image) (bodies : List (List ℕ)) (core : CoreOf) (kept : Kept)
@@ -360,42 +338,7 @@ Refuses-all None bodies core next kept refused replayed some below reads refuses
 Refuses-all (Some image) bodies core next kept refused replayed some below reads refuses =
     Refuses-files image bodies core next kept refused replayed some below reads refuses
 
--- two readings, one after the other
-pub IsLogReading-both : {T : Type 0} (old mid new : DiskState) (second : Result T LogFault)
-    → IsLogReading {T = ⊤} old mid (Ok tt) → IsLogReading mid new second
-    → IsLogReading old new second
-IsLogReading-both old mid new second first next = record {
-  same = Unchanged-both old mid new first.same next.same;
-  time = Elapses-both old mid new first.time next.time next.same.no_fewer;
-  cause = subst (λ (count : ℕ). HasFaultCause count new.faults second) first.cause next.cause;
-}
-
-pub IsLogReading-same : (state : DiskState) → IsLogReading {T = ⊤} state state (Ok tt)
-IsLogReading-same state = record {
-  same = Unchanged-same state;
-  time = Elapses-same state;
-  cause = refl;
-}
-
 -- what a disk holds that was only read
 pub IfSome-held : (old new : Option Image) (P : Image → Type 0) → new ≡ old → IfSome new P
     → IfSome old P
 IfSome-held old new P same fact = subst (λ (holds : Option Image). IfSome holds P) same fact
-
--- a refusal, whatever it was to answer
-HasFaultCause-err : (T U : Type 0) (before now : ℕ) (refused : LogFault)
-    → HasFaultCause {T = T} before now (Err refused)
-    → HasFaultCause {T = U} before now (Err refused)
-HasFaultCause-err T U before now fault.NotFound cause = cause
-HasFaultCause-err T U before now (fault.Damaged file place) cause = cause
-HasFaultCause-err T U before now fault.Exists cause = cause
-HasFaultCause-err T U before now fault.DiskFault cause = cause
-HasFaultCause-err T U before now fault.Memory cause = cause
-
-pub IsLogReading-err : {T U : Type 0} (old new : DiskState) (refused : LogFault)
-    → IsLogReading {T = T} old new (Err refused) → IsLogReading {T = U} old new (Err refused)
-IsLogReading-err {T} {U} old new refused reading = record {
-  same = reading.same;
-  time = reading.time;
-  cause = HasFaultCause-err T U old.faults new.faults refused reading.cause;
-}

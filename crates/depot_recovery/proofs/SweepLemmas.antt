@@ -11,7 +11,6 @@ use Rattle.depot_disk.specs.State.{Becomes, DiskState, Elapses, IsDiskState, IsR
 use Rattle.depot_disk.specs.State.{Stepped, Within}
 use Rattle.depot_disk.specs.Torn.{IsFirstFrom, MayLose}
 use Rattle.depot_disk.proofs.RunLemmas.{LeavesOnly-both, LeavesOnly-call, LeavesOnly-wider}
-use Rattle.depot_disk.proofs.StateLemmas.{Elapses-same}
 use Rattle.depot_disk.proofs.TornLemmas.{with_file-elsewhere}
 use Rattle.catalog_journal.proofs.ThroughLemmas.{LeavesOnly-now}
 use Rattle.view_meaning.specs.declared.journal.Entry.{Entry}
@@ -118,16 +117,6 @@ Sweeps-reading journal old new result told reading = record {
   any_moment = LeavesOnly-call old new (Stepped (SameIfNeeded journal) old.may_leave) told
       reading.call.time (Within-Stepped journal old.may_leave)
       (λ image left. Within-Stepped journal old.may_leave image (reading.same.no_more image left));
-}
-
--- nor does no call at all
-pub Sweeps-none : (journal : List Entry) (state : DiskState) → IsDiskState state
-    → Sweeps journal state state
-Sweeps-none journal state told = record {
-  held = Becomes-same journal state.holds state.holds refl;
-  any_moment = LeavesOnly-call state state (Stepped (SameIfNeeded journal) state.may_leave) told
-      (Elapses-same state) (Within-Stepped journal state.may_leave)
-      (Within-Stepped journal state.may_leave);
 }
 
 -- a removal of a file that is not needed

@@ -1,8 +1,8 @@
--- The test whether a key names a partition of a view (`is_view_part`) passes exactly if an install
--- of it fits the description.
+-- A key with which an install fits passes the test whether it names a partition of a view
+-- (`is_view_part`).
 use Rattle.std.proofs.Common.{◌≡◌, ◌&&◌, ◌<◌, ◌≤◌, true, false, not, ℕ, refl, slice_get, arith}
 use Rattle.std.specs.Prelude.{max, min, IsSomeAnd, Option, None, Some}
-use Rattle.std.proofs.lemmas.Bool.{and_from, and_parts, lt-ltb, not-true, not_from_false}
+use Rattle.std.proofs.lemmas.Bool.{and_from, lt-ltb, not_from_false}
 use Rattle.desc_types.specs.declared.table.Key.{Key}
 use Rattle.desc_types.specs.Accepted.{IsAccepted}
 use Rattle.desc_types.specs.Descriptions.{DescOf}
@@ -13,9 +13,7 @@ use Rattle.partition_map.specs.Partitions.{end_of, is_met, start_of}
 use Rattle.partition_map.specs.Time.{END}
 use Rattle.view_meaning.specs.declared.journal.Entry.TheVariants as entry
 use Rattle.view_meaning.specs.Journal.{FitsEntry, IsPartOfView, IsView}
-use Rattle.view_meaning.specs.Partitions.{is_part}
 use Rattle.view_meaning.specs.Versions.{is_raw, is_raw_kind}
-use Rattle.view_meaning.proofs.FitLemmas.{FitsEntry-Install}
 use Rattle.depot_recovery.specs.Found.{is_view_part}
 
 -- a view is not raw
@@ -52,12 +50,3 @@ is_view_part-FitsEntry desc key at accepted fits =
         (is_met-begun table.width key.part (accepted.each key.table table same).width.some
         part.in_time)
         (not_from_false (is_raw_kind table.kind) (is_raw_kind-IsView table.kind part.view))
-
--- with a key that names one, an install fits, with any place
-pub FitsEntry-is_view_part : (desc : DescOf) (key : Key) (at : ℕ) → is_view_part desc key ≡ true
-    → FitsEntry desc (entry.Install key at)
-FitsEntry-is_view_part desc key at passes =
-    let parts = and_parts (is_part desc key) (not (is_raw (slice_get desc.tables key.table)))
-    passes in
-    FitsEntry-Install desc key at parts.0
-    (not-true (is_raw (slice_get desc.tables key.table)) parts.1)

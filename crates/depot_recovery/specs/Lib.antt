@@ -5,6 +5,8 @@ pub mod Noted
 pub mod Found
 pub mod Faults
 pub mod Recovered
+pub mod Replaying
+pub mod Latest
 pub mod Shelving
 pub mod Sweeping
 pub mod Typed

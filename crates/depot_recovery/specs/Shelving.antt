@@ -1,18 +1,27 @@
--- What a shelf keeps of the entries before a number, and what one entry more adds.
+-- The shelving of latest versions, entry by entry: what an entry adds to the shelf, what it keeps of
+-- those before a number, and what was found of all.
 use Rattle.std.specs.Prelude.{◌≡◌, ◌≢◌, ◌<◌, ◌≤◌, ℕ, zero, suc, ⊤, List, Option, None, Some}
-use Rattle.std.specs.Prelude.{IsSomeAnd, Result, Ok, drop, slice_get}
+use Rattle.std.specs.Prelude.{IsSomeAnd, Result, Ok, Err, drop, if◌then◌else◌, slice_get}
 use Rattle.catalog_journal.specs.declared.fault.LogFault.{LogFault}
+use Rattle.claim_core.specs.Cores.{CoreOf}
 use Rattle.depot_cell.specs.declared.cell.Cell.{Cell}
 use Rattle.depot_disk.specs.Image.{Image}
 use Rattle.desc_types.specs.Descriptions.{DescOf}
 use Rattle.row_codec.specs.Laws.{AreRowsOf}
 use Rattle.version_store.specs.Reading.{rows_in}
-use Rattle.version_store.specs.Shelves.{Kept}
+use Rattle.version_store.specs.Shelves.{Kept, ShelfOf, kept_in}
 use Rattle.view_meaning.specs.declared.journal.Entry.{Entry}
+use Rattle.view_meaning.specs.declared.journal.Entry.TheVariants as entry
 use Rattle.depot_recovery.specs.declared.shelving.Latest.{Latest}
-use Rattle.depot_recovery.specs.Depots.{DepotOf, types_of}
-use Rattle.depot_recovery.specs.Found.{◌>>=◌, check_files, in_file}
-use Rattle.depot_recovery.specs.Recovered.{latest_of}
+use Rattle.depot_recovery.specs.Depots.{DepotOf, is_latest, types_of}
+use Rattle.depot_recovery.specs.Found.{◌>>=◌, check_files, in_file, with_files}
+use Rattle.depot_recovery.specs.Recovered.{KeepsRead, Refuses}
+
+-- what an entry's file has to have rows of, if it is the latest install of a partition
+abbrev pub latest_of : List Entry → (number len : ℕ) → Entry → Option Latest
+latest_of journal number len (entry.Load delivery) = None
+latest_of journal number len (entry.Install key at) =
+    if is_latest journal number key then Some (record { key = key; len = len }) else None
 
 -- what the file of an entry has to have rows of, if there is one and it has a length
 abbrev pub latest_or : List Entry → (number : ℕ) → Option Entry → Option ℕ → Option Latest
@@ -62,3 +71,10 @@ pub record ReadsBefore (image : Image) (depot : DepotOf) (next : ℕ) (kept : Ke
       → files_from image depot 0 ≡ files_from image depot place
   pub read : (number : ℕ) → number < next
       → rows_found image depot.desc number (latest_in depot number) ≡ Ok (kept number)
+
+-- the files of the latest versions can be read, and the shelf keeps the rows that are in them; or the
+-- first fault in them was found
+abbrev pub Shelves : Image → DepotOf → CoreOf → Result ShelfOf LogFault → Type 0
+Shelves image depot core (Ok shelf) =
+    (with_files image depot ≡ Ok depot) × KeepsRead depot image core (kept_in shelf)
+Shelves image depot core (Err fault) = Refuses (with_files image depot) fault

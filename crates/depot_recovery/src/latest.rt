@@ -3,7 +3,7 @@
 ghost use Rattle.std.specs.Prelude.{◌≡◌};
 ghost use Rattle.claim_core.specs.Cores.{IsFound};
 ghost use Rattle.depot_recovery.specs.Depots.{is_latest};
-ghost use Rattle.depot_recovery.specs.Recovered.{IsInstallAt, IsLastInstall};
+ghost use Rattle.depot_recovery.specs.Latest.{IsInstallAt, IsLastInstall};
 
 use claim_core::Core;
 use desc_types::Key;

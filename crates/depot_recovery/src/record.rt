@@ -6,7 +6,8 @@ ghost use Rattle.row_codec.specs.Deliveries.{IsDelivery, read_delivery};
 ghost use Rattle.version_store.specs.Reading.{front_of, read_as};
 ghost use Rattle.view_meaning.specs.Versions.{is_raw};
 ghost use Rattle.depot_recovery.specs.Found.{entry_in, in_file, is_view_part};
-ghost use Rattle.depot_recovery.specs.Recovered.{Answers, StatesEntry, TellsDesc, TellsText};
+ghost use Rattle.depot_recovery.specs.Recovered.{Answers};
+ghost use Rattle.depot_recovery.specs.Replaying.{StatesEntry, TellsDesc, TellsText};
 
 use crate::OpenFault;
 use crate::fault::{damaged, file_fault};

@@ -10,8 +10,9 @@ ghost use Rattle.row_codec.specs.declared.body.Body.TheVariants as body;
 ghost use Rattle.depot_recovery.specs.Claims.{may_follow};
 ghost use Rattle.depot_recovery.specs.Noted.{AreNoted, AreOfBodies, AreUpToDate};
 ghost use Rattle.depot_recovery.specs.Found.{journal_in};
-ghost use Rattle.depot_recovery.specs.Recovered.{Answers, BeginsAs, IsListed};
-ghost use Rattle.depot_recovery.specs.Recovered.{IsReplayOf, ReadsMore, ReadsNext, depot_by};
+ghost use Rattle.depot_recovery.specs.Recovered.{Answers};
+ghost use Rattle.depot_recovery.specs.Replaying.{BeginsAs, IsListed, IsReplayOf, ReadsMore};
+ghost use Rattle.depot_recovery.specs.Replaying.{ReadsNext, depot_by};
 
 use crate::OpenFault;
 use crate::claims::Claims;
@@ -62,7 +63,7 @@ struct Replay {
 }
 
 impl Model for Replay {
-    ghost use Rattle.depot_recovery.specs.Recovered.{ReplayOf};
+    ghost use Rattle.depot_recovery.specs.Replaying.{ReplayOf};
 
     ghost Value = { ReplayOf };
 

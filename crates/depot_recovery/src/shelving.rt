@@ -8,8 +8,9 @@ ghost use Rattle.version_store.specs.Reading.{rows_in};
 ghost use Rattle.version_store.specs.Shelves.{kept_in};
 ghost use Rattle.depot_recovery.specs.Depots.{types_of};
 ghost use Rattle.depot_recovery.specs.Found.{in_file};
-ghost use Rattle.depot_recovery.specs.Recovered.{Answers, IsReplayOf, KeepsHeld, Shelves, depot_by};
-ghost use Rattle.depot_recovery.specs.Shelving.{ShelvesNext, latest_in, rows_found};
+ghost use Rattle.depot_recovery.specs.Recovered.{Answers, KeepsHeld};
+ghost use Rattle.depot_recovery.specs.Replaying.{IsReplayOf, depot_by};
+ghost use Rattle.depot_recovery.specs.Shelving.{Shelves, ShelvesNext, latest_in, rows_found};
 
 use crate::OpenFault;
 use crate::fault::file_fault;

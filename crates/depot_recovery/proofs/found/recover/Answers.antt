@@ -1,10 +1,9 @@
 -- A fault of the files of latest installs is one of the image.
-use Rattle.std.proofs.Common.{◌∙◌}
-use Rattle.depot_disk.proofs.StateLemmas.{Elapses-both, Unchanged-both}
+use Rattle.std.specs.Prelude.{Err, Ok}
 use Rattle.table_desc.proofs.TextLemmas.{Err-passed}
-use Rattle.depot_recovery.specs.Recovered.{depot_by}
+use Rattle.depot_recovery.specs.Replaying.{depot_by}
 use Rattle.depot_recovery.proofs.FoundLemmas.{fault-found}
-use Rattle.depot_recovery.proofs.ReadOnLemmas.{IsLogReading-err, IsLogReading-then}
+use Rattle.depot_recovery.proofs.ReadingLemmas.{IsLogReading-both, IsLogReading-err}
 use Rattle.depot_recovery.proofs.found.recover.Goals as goal
 
 pub returns-in_err-shelf-clause-exact : goal.returns-in_err-shelf-clause-exact
@@ -24,10 +23,8 @@ returns-in_err-shelf-clause-reading g c =
     let read = g.D.Disk.state c.read_journal.new.disk in
     let new = g.D.Disk.state c.shelve.new.disk in
     let fault = c.in_err-shelf.field-0.0 in
-    let first = c.in_ok-log.ensures.reading in
-    let second = c.in_ok-core.ensures.reading in
     rw (Err-passed c.from_residual-in_err-shelf.result fault c.from_residual-in_err-shelf.ensures.1)
-    (IsLogReading-then old read new _ (Unchanged-both old mid read first.same second.same)
-    (Elapses-both old mid read first.time second.time second.same.no_fewer)
-    (second.cause ∙ first.cause)
+    (IsLogReading-both old read new (Err fault)
+    (IsLogReading-both old mid read (Ok c.in_ok-core.core) c.in_ok-log.ensures.reading
+    c.in_ok-core.ensures.reading)
     (IsLogReading-err read new fault c.in_err-shelf.ensures.reading))

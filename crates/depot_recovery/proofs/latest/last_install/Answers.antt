@@ -1,6 +1,6 @@
 use Rattle.std.proofs.Common.{◌∙◌, ℕ, ap, subst, sym}
 use Rattle.query_pin.specs.Kept.{entry_in}
-use Rattle.depot_recovery.specs.Recovered.{IsLastInstall}
+use Rattle.depot_recovery.specs.Latest.{IsLastInstall}
 use Rattle.depot_recovery.proofs.LastInstallLemmas.{IsLastInstall-told}
 use Rattle.depot_recovery.proofs.latest.last_install.Goals as goal
 

@@ -1,12 +1,12 @@
 -- Record by record: each that is read is one more, and a fault of one is a fault of all.
 use Rattle.std.proofs.Common.{◌∙◌, arith, refl, sym}
-use Rattle.depot_disk.proofs.StateLemmas.{Elapses-both, Elapses-same, Unchanged-both}
-use Rattle.depot_disk.proofs.StateLemmas.{Unchanged-same}
+use Rattle.std.specs.Prelude.{Err, Ok}
 use Rattle.table_desc.proofs.TextLemmas.{Err-passed}
 use Rattle.depot_recovery.proofs.ListedLemmas.{Contains-of_bodies}
-use Rattle.depot_recovery.proofs.ReadOnLemmas.{IsLogReading-err, IsLogReading-then, ReadsOn-end}
-use Rattle.depot_recovery.proofs.ReadOnLemmas.{ReadsOn-first, ReadsOn-next, fault-ReadsOn, none-within}
-use Rattle.depot_recovery.proofs.ReadOnLemmas.{room-ReadsOn}
+use Rattle.depot_recovery.proofs.ReadOnLemmas.{ReadsOn-end, ReadsOn-first, ReadsOn-next}
+use Rattle.depot_recovery.proofs.ReadOnLemmas.{fault-ReadsOn, none-within, room-ReadsOn}
+use Rattle.depot_recovery.proofs.ReadingLemmas.{IsLogReading-both, IsLogReading-err}
+use Rattle.depot_recovery.proofs.ReadingLemmas.{IsLogReading-same}
 use Rattle.depot_recovery.proofs.replay.read_journal.Goals as goal
 
 pub loop-number-init : goal.loop-number-init
@@ -16,9 +16,7 @@ loop-number-init g c =
           c.in-Some.first.now c.in_ok-replay-in-Some.replay (sym c.in-Some.ensures.exact)
           c.in_ok-replay-in-Some.ensures.exact.0 c.in_ok-replay-in-Some.ensures.exact.1
           c.in_ok-replay-in-Some.ensures.listed;
-      same = Unchanged-same (g.D.Disk.state c.args.disk.now);
-      time = Elapses-same (g.D.Disk.state c.args.disk.now);
-      faults = refl;
+      reading = IsLogReading-same (g.D.Disk.state c.args.disk.now);
       loan = refl;
     }
 
@@ -48,7 +46,7 @@ returns-in_err-read_next-in-Some-get-clause-exact g c =
     c.from_residual-in_err-read_next-in-Some-get.ensures.1)
     (fault-ReadsOn (g.D.Disk.state c.args.disk.now).holds (g.D.Disk.state c.loop-number.disk).holds
     c.args.bodies.now c.loop-number.number c.in-Some-get.bytes.now c.loop-number.replay fault
-    c.loop-number.invariant.same.held (sym c.in-Some-get.ensures.exact)
+    c.loop-number.invariant.reading.same.held (sym c.in-Some-get.ensures.exact)
     c.loop-number.invariant.reads c.in_err-read_next-in-Some-get.ensures.exact)
 
 pub returns-in_err-read_next-in-Some-get-clause-reading :
@@ -60,8 +58,8 @@ returns-in_err-read_next-in-Some-get-clause-reading g c =
     let fault = c.in_err-read_next-in-Some-get.field-0.0 in
     let last = IsLogReading-err mid new fault c.in_err-read_next-in-Some-get.ensures.reading in
     rw (Err-passed c.from_residual-in_err-read_next-in-Some-get.result fault
-    c.from_residual-in_err-read_next-in-Some-get.ensures.1) (IsLogReading-then old mid new _
-    c.loop-number.invariant.same c.loop-number.invariant.time c.loop-number.invariant.faults last)
+    c.from_residual-in_err-read_next-in-Some-get.ensures.1)
+    (IsLogReading-both old mid new (Err fault) c.loop-number.invariant.reading last)
 
 pub returns-in_err-read_next-in-Some-get-clause-loan :
     goal.returns-in_err-read_next-in-Some-get-clause-loan
@@ -76,7 +74,6 @@ unreachable-requires g c =
 
 pub loop-number-preserved : goal.loop-number-preserved
 loop-number-preserved g c =
-    let reading = c.in_ok-read_next-in-Some-get.ensures.reading in
     let old = g.D.Disk.state c.args.disk.now in
     let mid = g.D.Disk.state c.loop-number.disk in
     let new = g.D.Disk.state c.read_next.new.disk in
@@ -84,14 +81,12 @@ loop-number-preserved g c =
       reads = ReadsOn-next (g.D.Disk.state c.args.disk.now).holds
           (g.D.Disk.state c.loop-number.disk).holds c.args.bodies.now c.loop-number.number
           c.in-Some-get.bytes.now c.loop-number.replay c.read_next.new.self
-          c.in_ok-read_next-in-Some-get.field-0 c.loop-number.invariant.same.held
+          c.in_ok-read_next-in-Some-get.field-0 c.loop-number.invariant.reading.same.held
           c.loop-number.auto.number (sym c.in-Some-get.ensures.exact)
           c.loop-number.invariant.reads c.in_ok-read_next-in-Some-get.ensures.ok
           c.in_ok-read_next-in-Some-get.ensures.exact;
-      same = Unchanged-both old mid new c.loop-number.invariant.same reading.same;
-      time = Elapses-both old mid new c.loop-number.invariant.time reading.time
-          reading.same.no_fewer;
-      faults = reading.cause ∙ c.loop-number.invariant.faults;
+      reading = IsLogReading-both old mid new (Ok tt) c.loop-number.invariant.reading
+          c.in_ok-read_next-in-Some-get.ensures.reading;
       loan = c.in_ok-read_next-in-Some-get.ensures.loan ∙ c.loop-number.invariant.loan;
     }
 
@@ -109,9 +104,9 @@ returns-clause-ok g c =
 
 pub returns-clause-reading : goal.returns-clause-reading
 returns-clause-reading g c = record {
-  same = c.loop-number.invariant.same;
-  time = c.loop-number.invariant.time;
-  cause = c.loop-number.invariant.faults;
+  same = c.loop-number.invariant.reading.same;
+  time = c.loop-number.invariant.reading.time;
+  cause = c.loop-number.invariant.reading.cause;
 }
 
 pub returns-clause-loan : goal.returns-clause-loan

@@ -3,10 +3,12 @@ use Rattle.std.proofs.Common.{◌≡◌, ◌∙◌, ◌<◌, arith, length, refl
 use Rattle.std.specs.Prelude.{Err, Ok}
 use Rattle.table_desc.proofs.TextLemmas.{Err-passed}
 use Rattle.version_store.specs.Shelves.{kept_in}
-use Rattle.depot_recovery.specs.Recovered.{Refuses, depot_by}
+use Rattle.depot_recovery.specs.Recovered.{Refuses}
+use Rattle.depot_recovery.specs.Replaying.{depot_by}
 use Rattle.depot_recovery.specs.Shelving.{latest_in, rows_found}
-use Rattle.depot_recovery.proofs.ShelvedLemmas.{IfSome-held, IsLogReading-both, IsLogReading-err}
-use Rattle.depot_recovery.proofs.ShelvedLemmas.{IsLogReading-same, KeepsHeld-all, ReadsBefore-first}
+use Rattle.depot_recovery.proofs.ReadingLemmas.{IsLogReading-both, IsLogReading-err}
+use Rattle.depot_recovery.proofs.ReadingLemmas.{IsLogReading-same}
+use Rattle.depot_recovery.proofs.ShelvedLemmas.{IfSome-held, KeepsHeld-all, ReadsBefore-first}
 use Rattle.depot_recovery.proofs.ShelvedLemmas.{Reads-step, Refuses-all, Shelves-all}
 use Rattle.depot_recovery.proofs.ShelvedLemmas.{ShelvesBefore-first, ShelvesBefore-step}
 use Rattle.depot_recovery.proofs.ShelvedLemmas.{length-bodies}

@@ -3,7 +3,7 @@ use Rattle.std.proofs.Common.{◌≡◌}
 use Rattle.std.specs.Prelude.{⊤, IfSome, Ok}
 use Rattle.catalog_journal.specs.Answers.{IsLogReading}
 use Rattle.version_store.specs.Shelves.{kept_in}
-use Rattle.depot_recovery.specs.Recovered.{depot_by}
+use Rattle.depot_recovery.specs.Replaying.{depot_by}
 use Rattle.depot_recovery.specs.Shelving.{ReadsBefore, ShelvesBefore}
 use Rattle.depot_recovery.proofs.shelving.shelve.Given as goal
 

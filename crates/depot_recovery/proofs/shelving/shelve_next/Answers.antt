@@ -2,7 +2,7 @@
 use Rattle.std.proofs.Common.{◌∙◌, sym}
 use Rattle.std.specs.Arc.{arc_value}
 use Rattle.version_store.specs.Shelves.{kept_in}
-use Rattle.depot_recovery.specs.Recovered.{depot_by}
+use Rattle.depot_recovery.specs.Replaying.{depot_by}
 use Rattle.depot_recovery.specs.Shelving.{latest_in}
 use Rattle.table_desc.proofs.TextLemmas.{Err-passed}
 use Rattle.depot_recovery.proofs.ShelvedLemmas.{rows_found-fault, rows_found-kept}
